@@ -140,6 +140,7 @@ fn script_text(why: ScriptWhy) -> &'static [u8]
         ScriptWhy::Utf8 => b"Utf8",
         ScriptWhy::Form => b"Form",
         ScriptWhy::Fuel => b"Fuel",
+        ScriptWhy::CallNumber => b"CallNumber",
         ScriptWhy::Export => b"Export",
         ScriptWhy::HostType => b"HostType",
         ScriptWhy::Value => b"Value",

@@ -1,25 +1,26 @@
 -- Lines are read exactly where each is well said behind those before it.
-use Rattle.std.proofs.Common.{◌≡◌, inl, inr, ℕ, ◌+◌, List, [], ◌∷◌, ◌++◌, codes, true, false, Result, Ok, refl, sym, ap, ◌∙◌, subst}
+use Rattle.std.proofs.Common.{◌≡◌, inl, inr, ℕ, ◌+◌, List, [], ◌∷◌, ◌++◌, codes, Bool, true, false, cond, Result, Ok, refl, sym, ap, ◌∙◌, subst, arith}
+use Rattle.std.specs.Option.{is_some}
 use Rattle.std.proofs.lemmas.Bool.{both_ways, false_from_ne_true}
 use Rattle.std.proofs.lemmas.List.{append-nil, append_assoc}
+use Rattle.std.proofs.lemmas.List.Sums.{sum_by_push}
 use Rattle.ca_types.specs.declared.exports.Export.{Export}
+use Rattle.script_reader.specs.declared.script.Item.TheVariants as item
 use Rattle.script_reader.specs.declared.fault.ScriptWhy.{ScriptWhy}
-use Rattle.script_reader.specs.Script.{Draft, empty_draft, is_begun, is_skipped, add_line, add_others, add_lines, line_text}
-use Rattle.script_reader.specs.Syntax.{SaysNothing, SaySomething, IsLine, AreLines}
+use Rattle.script_reader.specs.Script.{Draft, empty_draft, is_begun, after, calls_in, is_skipped, add_line, add_others, add_lines, line_text}
+use Rattle.script_reader.specs.Syntax.{SaysNothing, SaySomething, IsCancelOf, calls_among, IsLine, AreLines}
 use Rattle.script_reader.proofs.Cases.{ok_inj}
+use Rattle.script_reader.proofs.Counted.{one_call, no_call}
 use Rattle.script_reader.proofs.FirstFault.{on_ok}
-use Rattle.script_reader.proofs.DraftLines.{texts_of, more_call, more_fuel, say_told, nothing_tells, call_tells, fuel_tells, said_call, cons_parts, no_parts}
+use Rattle.script_reader.proofs.DraftLines.{texts_of, Says, more_fuel, more_call, more_cancel, more_picks, say_told, nothing_tells, fuel_tells, call_tells, cancel_tells, picks_tell, said_item, said_picks, cons_parts, no_parts}
 
 -- a text with a word says something
 nothing_skipped : (text : List ℕ) → SaysNothing text → is_skipped text ≡ true
 nothing_skipped text (inl e) = ap (λ (l : List ℕ). is_skipped l) e
 nothing_skipped text (inr c) = ap (λ (l : List ℕ). is_skipped l) c.1
 
-call_says : (text written : List ℕ) → text ≡ codes "call " ++ written → SaysNothing text → ⊥
-call_says text written e n = both_ways (is_skipped text) (ap (λ (l : List ℕ). is_skipped l) e) (nothing_skipped text n)
-
-fuel_says : (text written : List ℕ) → text ≡ codes "fuel " ++ written → SaysNothing text → ⊥
-fuel_says text written e n = both_ways (is_skipped text) (ap (λ (l : List ℕ). is_skipped l) e) (nothing_skipped text n)
+says : (text same : List ℕ) → text ≡ same → is_skipped same ≡ false → SaysNothing text → ⊥
+says text same e h n = both_ways (is_skipped text) (ap (λ (l : List ℕ). is_skipped l) e ∙ h) (nothing_skipped text n)
 
 -- one text more
 more_say : (before : List (List ℕ)) (text : List ℕ) → SaySomething before → SaySomething (before ++ text ∷ [])
@@ -37,53 +38,103 @@ others_say [] text n (inr m) = absurd m
 others_say (first ∷ before) text n (inl m) = inl m
 others_say (first ∷ before) text n (inr m) = inr (others_say before text n m)
 
--- Something is said so far exactly where one of these texts says something.
+-- whether a text calls, and how many of some texts do, with one text more
+abbrev calls : List ℕ → Bool
+calls text = is_some (after (codes "call ") text)
+
+among_more : (before : List (List ℕ)) (text : List ℕ) (b : Bool) → calls text ≡ b → calls_among (before ++ text ∷ []) ≡ calls_among before + cond b 1 0
+among_more before text b e =
+    sum_by_push (λ (l : List ℕ). cond (calls l) 1 0) before text ∙ ap (λ (c : Bool). calls_among before + cond c 1 0) e
+
+among_call : (before : List (List ℕ)) (text : List ℕ) → calls text ≡ true → calls_among (before ++ text ∷ []) ≡ calls_among before + 1
+among_call before text e = among_more before text true e
+
+among_other : (before : List (List ℕ)) (text : List ℕ) → calls text ≡ false → calls_among (before ++ text ∷ []) ≡ calls_among before
+among_other before text e = omega (arith, among_more before text false e)
+
+calls_alike : (text same : List ℕ) (b : Bool) → text ≡ same → calls same ≡ b → calls text ≡ b
+calls_alike text same b e h = ap (λ (l : List ℕ). calls l) e ∙ h
+
+nothing_calls : (text : List ℕ) → SaysNothing text → calls text ≡ false
+nothing_calls text (inl e) = calls_alike text [] false e refl
+nothing_calls text (inr c) = calls_alike text (codes "#" ++ c.0) false c.1 refl
+
+-- Something is said so far exactly where one of these texts says something, and as many items are calls as texts call.
 abbrev pub Tells : Draft → List (List ℕ) → Type 0
-Tells s before = (is_begun s ≡ true → SaySomething before) × (SaySomething before → is_begun s ≡ true)
+Tells s before = (is_begun s ≡ true → SaySomething before) × (SaySomething before → is_begun s ≡ true) × (calls_in s.items ≡ calls_among before)
 
 pub none_told : Tells empty_draft []
-none_told = (λ e. (let never : false ≡ true = e in cc), λ m. absurd m)
+none_told = ((λ e. (let never : false ≡ true = e in cc)), (λ m. absurd m), refl)
 
 skipped_more : (s : Draft) (before : List (List ℕ)) (text : List ℕ) → Tells s before → SaysNothing text → Tells s (before ++ text ∷ [])
-skipped_more s before text i n = (λ e. more_say before text (i.0 e), λ m. i.1 (others_say before text n m))
+skipped_more s before text i n = (
+  (λ e. more_say before text (i.0 e)),
+  (λ m. i.1 (others_say before text n m)),
+  i.2 ∙ sym (among_other before text (nothing_calls text n)),
+)
 
-said_more : (t : Draft) (before : List (List ℕ)) (text : List ℕ) → is_begun t ≡ true → (SaysNothing text → ⊥) → Tells t (before ++ text ∷ [])
-said_more t before text e n = (λ b. last_says before text n, λ m. e)
+said_more : (t : Draft) (before : List (List ℕ)) (text : List ℕ) → is_begun t ≡ true → (SaysNothing text → ⊥) → calls_in t.items ≡ calls_among (before ++ text ∷ []) → Tells t (before ++ text ∷ [])
+said_more t before text e n c = ((λ b. last_says before text n), (λ m. e), c)
 
 -- a line
+abbrev Line : List Export → List (List ℕ) → List ℕ → Type 0
+Line exports before text = IsLine exports (SaySomething before) (calls_among before) text
+
+told : (exports : List Export) (s : Draft) (before : List (List ℕ)) (text : List ℕ) (t : Draft)
+    → Tells s before → Says exports s text t → Line exports before text × Tells t (before ++ text ∷ [])
+told exports s before text t i (inl nothing) =
+    (inl nothing.0, subst (λ (u : Draft). Tells u (before ++ text ∷ [])) nothing.1 (skipped_more s before text i nothing.0))
+told exports s before text t i (inr (inl fuel)) =
+    let w = fuel.1 in
+    let whole = codes "fuel " ++ w.0 in
+    let count : calls_in s.items ≡ calls_among (before ++ text ∷ []) = i.2 ∙ sym (among_other before text (calls_alike text whole false w.1 refl)) in
+    let more : Tells (more_fuel s fuel.0) (before ++ text ∷ []) = said_more (more_fuel s fuel.0) before text refl (says text whole w.1 refl) count in
+    (inr (inl (w.0, fuel.0, w.1, (λ m. both_ways (is_begun s) fuel.2 (i.1 m)), w.2)), subst (λ (u : Draft). Tells u (before ++ text ∷ [])) fuel.3 more)
+told exports s before text t i (inr (inr (inl call))) =
+    let w = call.1 in
+    let whole = codes "call " ++ w.0 in
+    let u = more_call s call.0 in
+    let count : calls_in u.items ≡ calls_among (before ++ text ∷ []) =
+    one_call s.items call.0 ∙ (ap (λ (n : ℕ). n + 1) i.2 ∙ sym (among_call before text (calls_alike text whole true w.1 refl))) in
+    let more : Tells u (before ++ text ∷ []) = said_more u before text (said_item s (item.Call call.0)) (says text whole w.1 refl) count in
+    (inr (inr (inl (w.0, call.0, w.1, w.2))), subst (λ (v : Draft). Tells v (before ++ text ∷ [])) call.2 more)
+told exports s before text t i (inr (inr (inr (inl cancel)))) =
+    let w = cancel.1 in
+    let whole = codes "cancel " ++ w.0 in
+    let u = more_cancel s cancel.0 in
+    let count : calls_in u.items ≡ calls_among (before ++ text ∷ []) =
+    no_call s.items cancel.0 ∙ (i.2 ∙ sym (among_other before text (calls_alike text whole false w.1 refl))) in
+    let more : Tells u (before ++ text ∷ []) = said_more u before text (said_item s (item.Cancel cancel.0)) (says text whole w.1 refl) count in
+    let is : IsCancelOf (calls_among before) w.0 cancel.0 = subst (λ (n : ℕ). IsCancelOf n w.0 cancel.0) i.2 w.2 in
+    (inr (inr (inr (inl (w.0, cancel.0, w.1, is)))), subst (λ (v : Draft). Tells v (before ++ text ∷ [])) cancel.2 more)
+told exports s before text t i (inr (inr (inr (inr pick)))) =
+    let w = pick.1 in
+    let whole = codes "pick " ++ w.0 in
+    let u = more_picks s pick.0 in
+    let count : calls_in s.items ≡ calls_among (before ++ text ∷ []) = i.2 ∙ sym (among_other before text (calls_alike text whole false w.1 refl)) in
+    let more : Tells u (before ++ text ∷ []) = said_more u before text (said_picks s w.0 pick.0 w.2) (says text whole w.1 refl) count in
+    (inr (inr (inr (inr (w.0, pick.0, w.1, w.2)))), subst (λ (v : Draft). Tells v (before ++ text ∷ [])) pick.2 more)
+
 line_said : (exports : List Export) (s : Draft) (before : List (List ℕ)) (text : List ℕ) (t : Draft)
-    → Tells s before → add_line exports s text ≡ Ok t → IsLine exports (SaySomething before) text × Tells t (before ++ text ∷ [])
-line_said exports s before text t i h =
-    elim (say_told exports s text t h) [
-      | inl nothing ↦
-          (inl nothing.0, subst (λ (u : Draft). Tells u (before ++ text ∷ [])) nothing.1 (skipped_more s before text i nothing.0))
-      | inr says ↦
-          elim says [
-            | inl call ↦
-                let w = call.1 in (
-                  inr (inr (w.0, call.0, w.1, w.2)),
-                  subst (λ (u : Draft). Tells u (before ++ text ∷ [])) call.2 (said_more (more_call s call.0) before text (said_call s call.0) (call_says text w.0 w.1)),
-                )
-            | inr fuel ↦
-                let w = fuel.1 in (
-                  inr (inl (w.0, fuel.0, w.1, (λ m. both_ways (is_begun s) fuel.2 (i.1 m)), w.2)),
-                  subst (λ (u : Draft). Tells u (before ++ text ∷ [])) fuel.3 (said_more (more_fuel s fuel.0) before text refl (fuel_says text w.0 w.1)),
-                )
-          ]
-    ]
+    → Tells s before → add_line exports s text ≡ Ok t → Line exports before text × Tells t (before ++ text ∷ [])
+line_said exports s before text t i h = told exports s before text t i (say_told exports s text t h)
 
 line_reads : (exports : List Export) (s : Draft) (before : List (List ℕ)) (text : List ℕ)
-    → Tells s before → IsLine exports (SaySomething before) text → (t : Draft) × (add_line exports s text ≡ Ok t)
+    → Tells s before → Line exports before text → (t : Draft) × (add_line exports s text ≡ Ok t)
 line_reads exports s before text i (inl nothing) = (s, nothing_tells exports s text nothing)
 line_reads exports s before text i (inr (inl f)) =
     let first : is_begun s ≡ false = false_from_ne_true (is_begun s) (λ e. f.3 (i.0 e)) in
     (more_fuel s f.1, fuel_tells exports s text f.1 first (f.0, f.2, f.4))
-line_reads exports s before text i (inr (inr c)) = (more_call s c.1, call_tells exports s text c.1 (c.0, c.2, c.3))
+line_reads exports s before text i (inr (inr (inl c))) = (more_call s c.1, call_tells exports s text c.1 (c.0, c.2, c.3))
+line_reads exports s before text i (inr (inr (inr (inl k)))) =
+    let is : IsCancelOf (calls_in s.items) k.0 k.1 = subst (λ (n : ℕ). IsCancelOf n k.0 k.1) (sym i.2) k.3 in
+    (more_cancel s k.1, cancel_tells exports s text k.1 (k.0, k.2, is))
+line_reads exports s before text i (inr (inr (inr (inr p)))) = (more_picks s p.1, picks_tell exports s text p.1 (p.0, p.2, p.3))
 
 -- lines, each behind those before it
 abbrev pub Follow : List Export → List (List ℕ) → List (List ℕ) → Type 0
 Follow exports before [] = Unit {0}
-Follow exports before (text ∷ texts) = IsLine exports (SaySomething before) text × Follow exports (before ++ text ∷ []) texts
+Follow exports before (text ∷ texts) = Line exports before text × Follow exports (before ++ text ∷ []) texts
 
 pub lines_said : (exports : List Export) (s : Draft) (before : List (List ℕ)) (number : ℕ) (ls : List (List ℕ)) (t : Draft)
     → Tells s before → add_lines exports s number ls ≡ Ok t → Follow exports before (texts_of ls) × Tells t (before ++ texts_of ls)
@@ -107,26 +158,26 @@ lines_read exports s before number (line ∷ ls) i w =
     (rest.0, ap (λ (r : Result Draft ScriptWhy). add_others (λ u. add_lines exports u (number + 1) ls) number r) one.1 ∙ rest.1)
 
 each_told : (exports : List Export) (before texts : List (List ℕ)) → Follow exports before texts
-    → (front : List (List ℕ)) (text : List ℕ) (behind : List (List ℕ)) → texts ≡ front ++ text ∷ behind → IsLine exports (SaySomething (before ++ front)) text
+    → (front : List (List ℕ)) (text : List ℕ) (behind : List (List ℕ)) → texts ≡ front ++ text ∷ behind → Line exports (before ++ front) text
 each_told exports before [] w front text behind e = absurd (no_parts front text behind e)
 each_told exports before (first ∷ texts) w [] text behind e =
     let both = cons_parts first text texts behind e in
-    let here : IsLine exports (SaySomething before) text = subst (λ (l : List ℕ). IsLine exports (SaySomething before) l) both.0 w.0 in
-    subst (λ (l : List (List ℕ)). IsLine exports (SaySomething l) text) (sym (append-nil before)) here
+    let here : Line exports before text = subst (λ (l : List ℕ). Line exports before l) both.0 w.0 in
+    subst (λ (l : List (List ℕ)). Line exports l text) (sym (append-nil before)) here
 each_told exports before (first ∷ texts) w (next ∷ front) text behind e =
     let both = cons_parts first next texts (front ++ text ∷ behind) e in
     let rest = each_told exports (before ++ first ∷ []) texts w.1 front text behind both.1 in
     let same : (before ++ first ∷ []) ++ front ≡ before ++ next ∷ front = append_assoc before (first ∷ []) front ∙ ap (λ (l : List ℕ). before ++ l ∷ front) both.0 in
-    subst (λ (l : List (List ℕ)). IsLine exports (SaySomething l) text) same rest
+    subst (λ (l : List (List ℕ)). Line exports l text) same rest
 
 each_tells : (exports : List Export) (before texts : List (List ℕ))
-    → ((front : List (List ℕ)) (text : List ℕ) (behind : List (List ℕ)) → texts ≡ front ++ text ∷ behind → IsLine exports (SaySomething (before ++ front)) text)
+    → ((front : List (List ℕ)) (text : List ℕ) (behind : List (List ℕ)) → texts ≡ front ++ text ∷ behind → Line exports (before ++ front) text)
     → Follow exports before texts
 each_tells exports before [] f = tt
 each_tells exports before (first ∷ texts) f = (
-  subst (λ (l : List (List ℕ)). IsLine exports (SaySomething l) first) (append-nil before) (f [] first texts refl),
+  subst (λ (l : List (List ℕ)). Line exports l first) (append-nil before) (f [] first texts refl),
   each_tells exports (before ++ first ∷ []) texts (λ front text behind e.
-      subst (λ (l : List (List ℕ)). IsLine exports (SaySomething l) text) (sym (append_assoc before (first ∷ []) front))
+      subst (λ (l : List (List ℕ)). Line exports l text) (sym (append_assoc before (first ∷ []) front))
       (f (first ∷ front) text behind (ap (λ (l : List (List ℕ)). first ∷ l) e))),
 )
 

@@ -2,6 +2,7 @@ pub mod AreLines
 pub mod CallLines
 pub mod Called
 pub mod Cases
+pub mod Counted
 pub mod Digits
 pub mod FirstFault
 pub mod Found
@@ -12,10 +13,12 @@ pub mod Marks
 pub mod Numbers
 pub mod OneScript
 pub mod OtherCalls
-pub mod OtherFuel
 pub mod OtherLines
+pub mod OtherNumbers
 pub mod OtherTexts
 pub mod DraftLines
+pub mod Parted
+pub mod Picks
 pub mod Pieces
 pub mod Scripts
 pub mod Splits

@@ -95,6 +95,7 @@ refuses_call exports text why.Value i =
 refuses_call exports text why.Size i = absurd i
 refuses_call exports text why.Utf8 i = absurd i
 refuses_call exports text why.Fuel i = absurd i
+refuses_call exports text why.CallNumber i = absurd i
 
 pub other_calls_are_refused : (exports : List Export) (text : List ℕ) (w : ScriptWhy) → (call_of exports text ≡ Err w) ↔ IsNoCallOf exports text w
 other_calls_are_refused exports text w = (

@@ -7,8 +7,8 @@ use Rattle.ca_types.specs.declared.exports.Export.{Export}
 use Rattle.script_reader.specs.declared.fault.ScriptWhy.{ScriptWhy}
 use Rattle.script_reader.specs.declared.fault.ScriptWhy.TheVariants as why
 use Rattle.script_reader.specs.declared.fault.ScriptFault.{ScriptFault}
-use Rattle.script_reader.specs.Script.{empty_draft, is_begun, line_at, line_text, lines}
-use Rattle.script_reader.specs.Syntax.{SaySomething, IsLineOf, ArePaired, IsNoLine, AreLines, HasFirstFault, IsNoScriptText}
+use Rattle.script_reader.specs.Script.{empty_draft, is_begun, calls_in, line_at, line_text, lines}
+use Rattle.script_reader.specs.Syntax.{SaySomething, calls_among, IsLineOf, ArePaired, IsNoLine, AreLines, HasFirstFault, IsNoScriptText}
 use Rattle.script_reader.specs.Laws.{FirstFaultIsTold}
 use Rattle.script_reader.proofs.WholeUtf8.{cut_at, not_whole}
 use Rattle.script_reader.proofs.LineFeeds.{lines_told, lines_tell}
@@ -25,11 +25,18 @@ same_fault fault n w e h =
     ∙ ap (λ (u : ScriptWhy). (let f : ScriptFault = record { line = n; why = u } in f)) h
 
 -- a line is refused alike where the same is known of those before it
-refused_alike : (exports : List Export) (P Q : Type 0) (text : List ℕ) (w : ScriptWhy) → (P → Q) → (Q → P) → IsNoLine exports P text w → IsNoLine exports Q text w
-refused_alike exports P Q text w f g (inl i) = inl i
-refused_alike exports P Q text w f g (inr (inl (written, e, inl both))) = inr (inl (written, e, inl (f both.0, both.1)))
-refused_alike exports P Q text w f g (inr (inl (written, e, inr both))) = inr (inl (written, e, inr ((λ q. both.0 (g q)), both.1)))
-refused_alike exports P Q text w f g (inr (inr i)) = inr (inr i)
+begun_alike : (exports : List Export) (P Q : Type 0) (calls : ℕ) (text : List ℕ) (w : ScriptWhy) → (P → Q) → (Q → P) → IsNoLine exports P calls text w → IsNoLine exports Q calls text w
+begun_alike exports P Q calls text w f g (inl i) = inl i
+begun_alike exports P Q calls text w f g (inr (inl (written, e, inl both))) = inr (inl (written, e, inl (f both.0, both.1)))
+begun_alike exports P Q calls text w f g (inr (inl (written, e, inr both))) = inr (inl (written, e, inr ((λ q. both.0 (g q)), both.1)))
+begun_alike exports P Q calls text w f g (inr (inr i)) = inr (inr i)
+
+refused_alike : (exports : List Export) (P Q : Type 0) (n m : ℕ) (text : List ℕ) (w : ScriptWhy) → (P → Q) → (Q → P) → n ≡ m → IsNoLine exports P n text w → IsNoLine exports Q m text w
+refused_alike exports P Q n m text w f g e i = subst (λ (k : ℕ). IsNoLine exports Q k text w) e (begun_alike exports P Q n text w f g i)
+
+-- what refuses a line behind these
+abbrev Bad : List Export → List (List ℕ) → List ℕ → ScriptWhy → Type 0
+Bad exports before text w = IsNoLine exports (SaySomething before) (calls_among before) text w
 
 -- the lines of these texts
 parts_of : (ls before : List (List ℕ)) (text : List ℕ) (behind : List (List ℕ)) → texts_of ls ≡ before ++ text ∷ behind
@@ -64,7 +71,7 @@ fault_found exports bytes fault f =
       paired = subst (λ (l : List (List ℕ)). ArePaired IsLineOf l (lines bytes)) parts (paired_told (lines bytes));
       good = follow_told exports (texts_of f.0) said.0;
       place = f.5 ∙ ap (λ (n : ℕ). n + 1) (sym long);
-      bad = refused_alike exports (is_begun f.3 ≡ true) (SaySomething (texts_of f.0)) (line_text f.1) fault.why told.0 told.1 (line_refused exports f.3 (line_text f.1) fault.why f.7);
+      bad = refused_alike exports (is_begun f.3 ≡ true) (SaySomething (texts_of f.0)) (calls_in f.3.items) (calls_among (texts_of f.0)) (line_text f.1) fault.why told.0 told.1 told.2 (line_refused exports f.3 (line_text f.1) fault.why f.7);
     }
 
 fault_finds : (exports : List Export) (bytes : List ℕ) (fault : ScriptFault) → HasFirstFault exports bytes fault → Faulty exports empty_draft 1 (lines bytes) fault
@@ -75,8 +82,9 @@ fault_finds exports bytes fault f =
     let good : AreLines exports (texts_of parts.0) = subst (λ (l : List (List ℕ)). AreLines exports l) (sym parts.4) f.good in
     let read = lines_read exports empty_draft [] 1 parts.0 none_told (follow_tells exports (texts_of parts.0) good) in
     let told = (lines_said exports empty_draft [] 1 parts.0 read.0 none_told read.1).1 in
-    let here : IsNoLine exports (SaySomething (texts_of parts.0)) f.text fault.why = subst (λ (l : List (List ℕ)). IsNoLine exports (SaySomething l) f.text fault.why) (sym parts.4) f.bad in
-    let bad : IsNoLine exports (SaySomething (texts_of parts.0)) (line_text parts.1) fault.why = subst (λ (l : List ℕ). IsNoLine exports (SaySomething (texts_of parts.0)) l fault.why) (sym parts.5) here in
+    let here : Bad exports (texts_of parts.0) f.text fault.why = subst (λ (l : List (List ℕ)). Bad exports l f.text fault.why) (sym parts.4) f.bad in
+    let bad : Bad exports (texts_of parts.0) (line_text parts.1) fault.why = subst (λ (l : List ℕ). Bad exports (texts_of parts.0) l fault.why) (sym parts.5) here in
+    let alike = refused_alike exports (SaySomething (texts_of parts.0)) (is_begun read.0 ≡ true) (calls_among (texts_of parts.0)) (calls_in read.0.items) (line_text parts.1) fault.why told.1 told.0 (sym told.2) bad in
     let long : length f.before ≡ length parts.0 = ap (λ (l : List (List ℕ)). length l) (sym parts.4) ∙ length-map parts.0 line_text in (
       parts.0,
       parts.1,
@@ -85,7 +93,7 @@ fault_finds exports bytes fault f =
       parts.3,
       f.place ∙ ap (λ (n : ℕ). n + 1) long,
       read.1,
-      refuses_line exports read.0 (line_text parts.1) fault.why (refused_alike exports (SaySomething (texts_of parts.0)) (is_begun read.0 ≡ true) (line_text parts.1) fault.why told.1 told.0 bad),
+      refuses_line exports read.0 (line_text parts.1) fault.why alike,
     )
 
 fault_told : (exports : List Export) (bytes : List ℕ) (fault : ScriptFault) → IsFirstFault exports bytes fault → IsNoScriptText exports bytes fault

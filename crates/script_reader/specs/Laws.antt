@@ -1,15 +1,15 @@
 -- What holds of the format alone.
-use Rattle.std.specs.Prelude.{◌≡◌, ◌⊎◌, ◌↔◌, IsTrue, ℕ, List, [], Some, Ok, Err}
-use Rattle.std.specs.List.{AllByRecursion}
+use Rattle.std.specs.Prelude.{◌≡◌, ◌⊎◌, ◌↔◌, IsTrue, ℕ, List, Some, Ok, Err}
 use Rattle.ca_types.specs.declared.types.ValType.{ValType}
 use Rattle.ca_types.specs.declared.value.Value.{Value}
 use Rattle.ca_types.specs.declared.exports.Export.{Export}
 use Rattle.script_reader.specs.declared.script.Call.{Call}
 use Rattle.script_reader.specs.declared.fault.ScriptFault.{ScriptFault}
 use Rattle.script_reader.specs.declared.fault.ScriptWhy.{ScriptWhy}
+use Rattle.script_reader.specs.declared.fault.ScriptWhy.TheVariants.{Form}
 use Rattle.value_reader.specs.Values.{arguments}
-use Rattle.script_reader.specs.Script.{Script, Draft, call_of, fuel_of, add_line, is_begun, IsScript, IsScriptRefused, CallsExport}
-use Rattle.script_reader.specs.Syntax.{AreArguments, IsCallOf, IsNoCallOf, IsFuelOf, IsNoFuelOf, IsNoLine, IsScriptText, IsNoScriptText}
+use Rattle.script_reader.specs.Script.{Script, Draft, call_of, cancel_of, fuel_of, picks_of, calls_in, add_line, is_begun, IsScript, IsScriptRefused, AreItems, ArePicks}
+use Rattle.script_reader.specs.Syntax.{AreArguments, IsCallOf, IsNoCallOf, IsCancelOf, IsNoCancelOf, IsFuelOf, IsNoFuelOf, ArePicksOf, IsNoLine, IsScriptText, IsNoScriptText}
 
 -- A text is exactly one script, or is refused at exactly one line for exactly one reason.
 abbrev pub OneScript : Type 0
@@ -29,7 +29,9 @@ FirstFaultIsTold = (exports : List Export) (bytes : List ℕ) (fault : ScriptFau
 
 -- A line is refused behind others exactly for the reason that its text has.
 abbrev pub OtherLinesAreRefused : Type 0
-OtherLinesAreRefused = (exports : List Export) (s : Draft) (text : List ℕ) (why : ScriptWhy) → (add_line exports s text ≡ Err why) ↔ IsNoLine exports (IsTrue (is_begun s)) text why
+OtherLinesAreRefused =
+    (exports : List Export) (s : Draft) (text : List ℕ) (why : ScriptWhy)
+    → (add_line exports s text ≡ Err why) ↔ IsNoLine exports (IsTrue (is_begun s)) (calls_in s.items) text why
 
 -- Arguments are read exactly where the text is one of theirs: values of their types in parentheses, with commas and blanks
 -- between them, and nothing behind them.
@@ -51,11 +53,21 @@ FuelIsALine = (text : List ℕ) (n : ℕ) → (fuel_of text ≡ Ok n) ↔ IsFuel
 abbrev pub OtherFuelIsRefused : Type 0
 OtherFuelIsRefused = (text : List ℕ) (why : ScriptWhy) → (fuel_of text ≡ Err why) ↔ IsNoFuelOf text why
 
--- Each item of a script calls an exported function, with one value for each of its parameters, of its type and in range: none
--- cancels a call.
-abbrev pub ScriptsCallExports : Type 0
-ScriptsCallExports = (exports : List Export) (bytes : List ℕ) (s : Script) → IsScript exports bytes s → AllByRecursion (CallsExport exports) s.items
+-- The number of a call is read exactly where the text behind the word is that of a call before it.
+abbrev pub CancelIsALine : Type 0
+CancelIsALine = (calls : ℕ) (text : List ℕ) (n : ℕ) → (cancel_of calls text ≡ Ok n) ↔ IsCancelOf calls text n
 
--- No script picks an alternative.
-abbrev pub ScriptsPickNothing : Type 0
-ScriptsPickNothing = (exports : List Export) (bytes : List ℕ) (s : Script) → IsScript exports bytes s → s.picks ≡ []
+abbrev pub OtherCancelsAreRefused : Type 0
+OtherCancelsAreRefused = (calls : ℕ) (text : List ℕ) (why : ScriptWhy) → (cancel_of calls text ≡ Err why) ↔ IsNoCancelOf calls text why
+
+-- Picks are read exactly where the text behind the word is numbers below 2^32 with one space between two; else it is `Form`.
+abbrev pub PicksAreALine : Type 0
+PicksAreALine = (text picks : List ℕ) → (picks_of text ≡ Ok picks) ↔ ArePicksOf text picks
+
+abbrev pub OtherPicksAreRefused : Type 0
+OtherPicksAreRefused = (text : List ℕ) (why : ScriptWhy) → (picks_of text ≡ Err why) ↔ ((why ≡ Form) × ((picks : List ℕ) → ArePicksOf text picks → ⊥))
+
+-- Each item of a script calls an exported function, with one value for each of its parameters, of its type and in range; or it
+-- cancels a call before it. Its picks are below 2^32.
+abbrev pub ScriptsCallExports : Type 0
+ScriptsCallExports = (exports : List Export) (bytes : List ℕ) (s : Script) → IsScript exports bytes s → AreItems exports 0 s.items × ArePicks s.picks

@@ -1,9 +1,10 @@
 -- Scripts: the text that decides the free choices of a run. The format is the program's own; values are written by the
 -- types of the Component Model (Explainer.md, "Type Definitions"). A script is UTF-8. Its lines say how much fuel the run
--- has, and which exported functions are called with which arguments, one call after the other. The lines are read in
--- order, each behind what those before it say, and the first that is refused tells its number and the reason.
-use Rattle.std.specs.Prelude.{◌≡◌, ◌+◌, ◌-◌, ◌*◌, ℕ, Bool, true, not, ◌&&◌, ◌||◌, ◌==◌, nat_lt, nat_le, List, [], ◌∷◌, ◌++◌, length, map, take, drop, codes, if◌then◌else◌, Option, Some, None, is_some, Result, Ok, Err}
-use Rattle.std.specs.List.{list_all, find, count_by, suffix_len, position_or_len, before_first, slice_split}
+-- has, which exported functions are called with which arguments, which of these calls are asked to come to an end, in which
+-- order, and which alternatives are picked where a run has several. The lines are read in order, each behind what those
+-- before it say, and the first that is refused tells its number and the reason.
+use Rattle.std.specs.Prelude.{◌≡◌, ◌≤◌, ◌+◌, ◌-◌, ◌*◌, ℕ, Bool, true, not, ◌&&◌, ◌||◌, ◌==◌, nat_lt, nat_le, List, [], ◌∷◌, ◌++◌, length, map, take, drop, codes, if◌then◌else◌, Option, Some, None, is_some, option_map, Result, Ok, Err}
+use Rattle.std.specs.List.{AllByRecursion, list_all, find, count_by, suffix_len, position_or_len, before_first, slice_split}
 use Rattle.std.specs.Option.{unwrap_or}
 use Rattle.std.specs.Str.{bytes_eq}
 use Rattle.std.specs.Str.Lines.{strip_carriage_return}
@@ -129,30 +130,81 @@ call_of_name exports name text (Some inner) = call_of_export name (export_named 
 abbrev pub call_of : List Export → List ℕ → Result Call ScriptWhy
 call_of exports text = call_of_name exports (name_of text) (behind_name text) (after_mark 40 (behind_name text))
 
+-- `cancel K`, of the text behind the word, where so many calls stand before it: `Form` where it is no number, `CallNumber`
+-- where no call before it has the number, counted from 1.
+abbrev pub checked_call : Option ℕ → Result ℕ ScriptWhy
+checked_call None = Err why.CallNumber
+checked_call (Some n) = if n == 0 then Err why.CallNumber else Ok n
+
+abbrev pub cancel_of : ℕ → List ℕ → Result ℕ ScriptWhy
+cancel_of calls text = if is_number text then checked_call (number_up_to calls text) else Err why.Form
+
+-- `pick n n ..`, of the text behind the word: numbers below 2^32 with one space between two, and `Form` where it is none.
+abbrev pub pick_limit : ℕ
+pick_limit = 4294967295
+
+abbrev pub pick_of : List ℕ → Option ℕ
+pick_of text = if is_number text then number_up_to pick_limit text else None
+
+abbrev pub pick_before : Option ℕ → Option (List ℕ) → Option (List ℕ)
+pick_before None others = None
+pick_before (Some n) others = option_map (λ picks. n ∷ picks) others
+
+abbrev pub all_picks : List (List ℕ) → Option (List ℕ)
+all_picks [] = Some []
+all_picks (text ∷ texts) = pick_before (pick_of text) (all_picks texts)
+
+abbrev pub picks_or : Option (List ℕ) → Result (List ℕ) ScriptWhy
+picks_or None = Err why.Form
+picks_or (Some picks) = Ok picks
+
+abbrev pub picks_of : List ℕ → Result (List ℕ) ScriptWhy
+picks_of text = picks_or (all_picks (slice_split (λ b. b == 32) text))
+
+-- how many of these items are calls
+abbrev pub calls_in : List Item → ℕ
+calls_in [] = 0
+calls_in (item.Call call ∷ items) = calls_in items + 1
+calls_in (item.Cancel number ∷ items) = calls_in items
+
 -- a script in the making: what the lines so far say
 pub record Draft : Type 0 where
   pub fuel : Option ℕ
+  pub picks : List ℕ
   pub items : List Item
 
 -- before the first line
 abbrev pub empty_draft : Draft
-empty_draft = record { fuel = None; items = [] }
+empty_draft = record { fuel = None; picks = []; items = [] }
 
 -- whether a line so far says anything
 abbrev pub is_begun : Draft → Bool
-is_begun s = is_some s.fuel || not (length s.items == 0)
+is_begun s = is_some s.fuel || not (length s.picks == 0) || not (length s.items == 0)
 
 -- A `fuel` line stands before all others that say something, else it is refused as `Form`.
 abbrev pub with_fuel : Draft → Result ℕ ScriptWhy → Result Draft ScriptWhy
-with_fuel s (Ok n) = Ok (record { fuel = Some n; items = s.items })
+with_fuel s (Ok n) = Ok (record { fuel = Some n; picks = s.picks; items = s.items })
 with_fuel s (Err why) = Err why
 
 abbrev pub add_fuel : Draft → List ℕ → Result Draft ScriptWhy
 add_fuel s text = if is_begun s then Err why.Form else with_fuel s (fuel_of text)
 
+-- behind one more item
+abbrev pub and_item : Draft → Item → Draft
+and_item s i = record { fuel = s.fuel; picks = s.picks; items = s.items ++ i ∷ [] }
+
 abbrev pub with_call : Draft → Result Call ScriptWhy → Result Draft ScriptWhy
-with_call s (Ok call) = Ok (record { fuel = s.fuel; items = s.items ++ item.Call call ∷ [] })
+with_call s (Ok call) = Ok (and_item s (item.Call call))
 with_call s (Err why) = Err why
+
+abbrev pub with_cancel : Draft → Result ℕ ScriptWhy → Result Draft ScriptWhy
+with_cancel s (Ok number) = Ok (and_item s (item.Cancel number))
+with_cancel s (Err why) = Err why
+
+-- behind more picks: those of all lines are one list
+abbrev pub with_picks : Draft → Result (List ℕ) ScriptWhy → Result Draft ScriptWhy
+with_picks s (Ok picks) = Ok (record { fuel = s.fuel; picks = s.picks ++ picks; items = s.items })
+with_picks s (Err why) = Err why
 
 -- a line that says nothing: an empty one, or a comment
 abbrev pub is_skipped : List ℕ → Bool
@@ -160,14 +212,21 @@ is_skipped [] = true
 is_skipped (b ∷ text) = b == 35
 
 -- what is said with a line by its first word; another one is refused as `Form`
-abbrev pub add_by_word : List Export → Draft → Option (List ℕ) → Option (List ℕ) → Result Draft ScriptWhy
-add_by_word exports s (Some fuel) call = add_fuel s fuel
-add_by_word exports s None (Some call) = with_call s (call_of exports call)
-add_by_word exports s None None = Err why.Form
+abbrev pub add_by_word : List Export → Draft → Option (List ℕ) → Option (List ℕ) → Option (List ℕ) → Option (List ℕ) → Result Draft ScriptWhy
+add_by_word exports s (Some fuel) call cancel pick = add_fuel s fuel
+add_by_word exports s None (Some call) cancel pick = with_call s (call_of exports call)
+add_by_word exports s None None (Some cancel) pick = with_cancel s (cancel_of (calls_in s.items) cancel)
+add_by_word exports s None None None (Some pick) = with_picks s (picks_of pick)
+add_by_word exports s None None None None = Err why.Form
+
+-- the text behind each of the words, where a text begins with it
+abbrev pub add_by_text : List Export → Draft → List ℕ → Result Draft ScriptWhy
+add_by_text exports s text =
+    add_by_word exports s (after (codes "fuel ") text) (after (codes "call ") text) (after (codes "cancel ") text) (after (codes "pick ") text)
 
 -- what is said with the line of this text, behind lines that say so much
 abbrev pub add_line : List Export → Draft → List ℕ → Result Draft ScriptWhy
-add_line exports s text = if is_skipped text then Ok s else add_by_word exports s (after (codes "fuel ") text) (after (codes "call ") text)
+add_line exports s text = if is_skipped text then Ok s else add_by_text exports s text
 
 -- what is said with the lines behind one that has this number, or the fault of that line
 abbrev pub add_others : (Draft → Result Draft ScriptFault) → ℕ → Result Draft ScriptWhy → Result Draft ScriptFault
@@ -179,9 +238,9 @@ abbrev pub add_lines : List Export → Draft → ℕ → List (List ℕ) → Res
 add_lines exports s line_number [] = Ok s
 add_lines exports s line_number (line ∷ others) = add_others (λ t. add_lines exports t (line_number + 1) others) line_number (add_line exports s (line_text line))
 
--- the script of what all lines say: no line picks an alternative
+-- the script of what all lines say
 abbrev pub script_of : Draft → Script
-script_of s = record { fuel = unwrap_or s.fuel default_fuel; picks = []; items = s.items }
+script_of s = record { fuel = unwrap_or s.fuel default_fuel; picks = s.picks; items = s.items }
 
 abbrev pub script_or : Result Draft ScriptFault → Result Script ScriptFault
 script_or (Ok s) = Ok (script_of s)
@@ -209,8 +268,16 @@ IsScript exports bytes s = script exports bytes ≡ Ok s
 abbrev pub IsScriptRefused : List Export → List ℕ → ScriptFault → Type 0
 IsScriptRefused exports bytes fault = script exports bytes ≡ Err fault
 
--- An item calls an exported function, with one value for each of its parameters, which fits its type and is sound. It cancels no
--- call.
-abbrev pub CallsExport : List Export → Item → Type 0
-CallsExport exports (item.Call call) = (e : Export) × (export_named exports call.name ≡ Some e) × AreOfTypes (param_types e) call.values
-CallsExport exports (item.Cancel number) = ⊥
+-- A call is one of an exported function, with one value for each of its parameters, which fits its type and is sound.
+abbrev pub CallsExport : List Export → Call → Type 0
+CallsExport exports call = (e : Export) × (export_named exports call.name ≡ Some e) × AreOfTypes (param_types e) call.values
+
+-- Items behind so many calls: each calls an exported function, or cancels a call before it.
+abbrev pub AreItems : List Export → ℕ → List Item → Type 0
+AreItems exports calls [] = Unit {0}
+AreItems exports calls (item.Call call ∷ items) = CallsExport exports call × AreItems exports (calls + 1) items
+AreItems exports calls (item.Cancel number ∷ items) = (1 ≤ number) × (number ≤ calls) × AreItems exports calls items
+
+-- Picks are below 2^32.
+abbrev pub ArePicks : List ℕ → Type 0
+ArePicks picks = AllByRecursion (λ n. n ≤ pick_limit) picks

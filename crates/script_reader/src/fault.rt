@@ -20,6 +20,9 @@ pub enum ScriptWhy {
     /// The units of fuel are not from 1 to 1,000,000,000.
     #[error("the units of fuel are not from 1 to 1,000,000,000")]
     Fuel,
+    /// No call before the line has the number.
+    #[error("no call before the line has the number")]
+    CallNumber,
     /// No function that can be called is exported under the name.
     #[error("no function that can be called is exported under the name")]
     Export,

@@ -1,6 +1,6 @@
 //! What holds of the format alone.
 
-ghost use Rattle.script_reader.specs.Laws.{OneScript, ScriptsAreTexts, FirstFaultIsTold, ArgumentsAreTexts, CallsAreLines, OtherCallsAreRefused, OtherLinesAreRefused, FuelIsALine, OtherFuelIsRefused, ScriptsCallExports, ScriptsPickNothing};
+ghost use Rattle.script_reader.specs.Laws.{OneScript, ScriptsAreTexts, FirstFaultIsTold, ArgumentsAreTexts, CallsAreLines, OtherCallsAreRefused, OtherLinesAreRefused, FuelIsALine, OtherFuelIsRefused, CancelIsALine, OtherCancelsAreRefused, PicksAreALine, OtherPicksAreRefused, ScriptsCallExports};
 
 /// A text is exactly one script, or is refused at exactly one line for exactly one reason.
 pub fn one_script()
@@ -47,12 +47,28 @@ pub fn other_fuel_is_refused()
     ensures { OtherFuelIsRefused }
 {}
 
-/// Each item of a script calls an exported function, with values of its parameters' types.
-pub fn scripts_call_exports()
-    ensures { ScriptsCallExports }
+/// The number of a call is that of one before it.
+pub fn cancel_is_a_line()
+    ensures { CancelIsALine }
 {}
 
-/// No script picks an alternative.
-pub fn scripts_pick_nothing()
-    ensures { ScriptsPickNothing }
+/// Each other text behind the word `cancel` is refused: as no number, or as that of no call before it.
+pub fn other_cancels_are_refused()
+    ensures { OtherCancelsAreRefused }
+{}
+
+/// Picks are numbers below 2^32 with one space between two.
+pub fn picks_are_a_line()
+    ensures { PicksAreALine }
+{}
+
+/// Each other text behind the word `pick` is refused.
+pub fn other_picks_are_refused()
+    ensures { OtherPicksAreRefused }
+{}
+
+/// Each item of a script calls an exported function, with values of its parameters' types, or cancels a call before it; its
+/// picks are below 2^32.
+pub fn scripts_call_exports()
+    ensures { ScriptsCallExports }
 {}

@@ -1,4 +1,5 @@
-//! Scripts: the text that says how much fuel a run has, and which exported functions it calls, one after the other.
+//! Scripts: the text that says how much fuel a run has, which exported functions it calls, which of these calls it asks to
+//! come to an end, and which alternatives it takes.
 //!
 //! The contract for the layer above: `read_script` answers `Ok` exactly for the text of a script (`specs/Script`), with
 //! what the script says, and else the first line that is refused, and why. Values are read by `value_reader`; another kind of
@@ -7,7 +8,7 @@
 //! - `script`: what a script says
 //! - `fault`: why a text is refused
 //! - `text`: blanks, words and lines
-//! - `lines`: the lines of a text
+//! - `parts`: the parts of a text that a byte parts
 //! - `number`: numbers
 //! - `directory`: the exports of a component, to be found by their names
 //! - `call`: the calls of exported functions
@@ -21,17 +22,18 @@ mod directory;
 mod draft;
 mod fault;
 mod laws;
-mod lines;
 mod number;
+mod parts;
 mod reading;
 mod script;
 mod text;
 
 pub use fault::{ScriptFault, ScriptWhy};
 pub use laws::{
-    arguments_are_texts, calls_are_lines, first_fault_is_told, fuel_is_a_line, one_script,
-    other_calls_are_refused, other_fuel_is_refused, other_lines_are_refused, scripts_are_texts,
-    scripts_call_exports, scripts_pick_nothing,
+    arguments_are_texts, calls_are_lines, cancel_is_a_line, first_fault_is_told, fuel_is_a_line,
+    one_script, other_calls_are_refused, other_cancels_are_refused, other_fuel_is_refused,
+    other_lines_are_refused, other_picks_are_refused, picks_are_a_line, scripts_are_texts,
+    scripts_call_exports,
 };
 pub use reading::read_script;
 pub use script::{Call, Item, Script};

@@ -1,16 +1,15 @@
 //! The reader of scripts.
 
-ghost use Rattle.std.specs.Prelude.{◌≡◌, [], IfOk, IfErr};
-ghost use Rattle.std.specs.List.{AllByRecursion};
+ghost use Rattle.std.specs.Prelude.{◌≡◌, IfOk, IfErr};
 ghost use Rattle.ca_base.specs.declared.memory.MemoryOr.TheVariants.{Memory};
 ghost use Rattle.ca_base.specs.Faults.{IfFault, MayMake};
 ghost use Rattle.script_reader.specs.Script as scripts;
-ghost use Rattle.script_reader.specs.Script.{IsScript, IsScriptRefused, CallsExport};
+ghost use Rattle.script_reader.specs.Script.{IsScript, IsScriptRefused, AreItems};
 
 use crate::directory::Directory;
 use crate::draft::Draft;
 use crate::fault::{ScriptFault, ScriptWhy};
-use crate::lines::Lines;
+use crate::parts::Parts;
 use crate::script::Script;
 use crate::text::{line_at, line_text};
 use ca_base::MemoryOr;
@@ -20,8 +19,15 @@ use std::alloc::Global;
 /// How many bytes a script has at most: 1 MiB.
 const SIZE_LIMIT: usize = 1024 * 1024;
 
+/// The lines of a text.
+fn lines_of(text: &str) -> Parts
+    ensures { result ≡ scripts.lines text.now }
+{
+    Parts::of(b'\n', text.as_bytes())
+}
+
 /// What the lines of a text say, or the first fault of theirs.
-#[tactic(auto, using(crate::proofs::Splits::few_lines, crate::proofs::Pieces::lines_are_utf8))]
+#[tactic(auto, using(crate::proofs::Splits::few_parts, crate::proofs::Pieces::lines_are_utf8))]
 fn read_lines(
     alloc: Global,
     text: &str,
@@ -29,7 +35,7 @@ fn read_lines(
 ) -> Result<Draft, MemoryOr<ScriptFault>>
     ensures { MayMake (λ draft. draft) (scripts.add_lines directory.now scripts.empty_draft 1 (scripts.lines text.now)) result }
 {
-    let mut lines = Lines::of(text.as_bytes());
+    let mut lines = lines_of(text);
     let mut draft = Draft::new(alloc);
     let mut number = 0;
     while let Some(line) = lines.next() {
@@ -50,7 +56,7 @@ fn read_lines(
 /// It answers what the script says, or the first line that is refused and why: a text of more than 1 MiB (`Size`, at line
 /// 0), one that is not UTF-8 (`Utf8`, at the line of the first byte that is not), and else line by line the first fault
 /// in the order of `ScriptWhy`. `Memory` is want of memory.
-#[tactic(auto, using(crate::proofs::Scripts::is_script, crate::proofs::Scripts::is_refused, crate::proofs::Called::scripts_call_exports, crate::proofs::Called::scripts_pick_nothing))]
+#[tactic(auto, using(crate::proofs::Scripts::is_script, crate::proofs::Scripts::is_refused, crate::proofs::Called::scripts_call_exports))]
 pub fn read_script(
     alloc: Global,
     bytes: &[u8],
@@ -62,10 +68,8 @@ pub fn read_script(
     ensures only { (s : scripts.Script) → IsScript exports.now bytes.now s → IfErr result (λ e. e ≡ Memory) }
     // What is refused is no script, and this is the line and the reason.
     ensures refused { IfErr result (λ e. IfFault e (λ fault. IsScriptRefused exports.now bytes.now fault)) }
-    // Each item calls an export, with values of its parameters' types.
-    ensures calls { IfOk result (λ s. AllByRecursion (CallsExport exports.now) s.items) }
-    // No alternative is picked.
-    ensures picks { IfOk result (λ s. s.picks ≡ []) }
+    // Each item calls an export, with values of its parameters' types, or cancels a call before it.
+    ensures items { IfOk result (λ s. AreItems exports.now 0 s.items) }
 {
     if bytes.len() > SIZE_LIMIT {
         return Err(MemoryOr::Fault(ScriptFault {
@@ -84,5 +88,5 @@ pub fn read_script(
     };
     let directory = Directory::of(alloc, exports.as_slice())?;
     let draft = read_lines(alloc, text, &directory)?;
-    Ok(draft.into_script(alloc))
+    Ok(draft.into_script())
 }

@@ -6,7 +6,7 @@ use crate::kinds::What;
 use crate::limits::{bytes_answer, length_answer};
 use crate::reading::read_answer;
 use crate::script_cases::script_answer;
-use crate::script_limits::{blank_answer, calls_answer, long_answer};
+use crate::script_limits::{blank_answer, calls_answer, long_answer, often_answer};
 use crate::types::type_answer;
 use crate::values::text_answer;
 use std::alloc::Global;
@@ -26,6 +26,7 @@ pub(crate) fn answer(alloc: Global, what: What, given: &str) -> Result<String, F
         What::Script => script_answer(alloc, given),
         What::Blank => blank_answer(alloc, given),
         What::Calls => calls_answer(alloc, given),
+        What::Often => often_answer(alloc, given),
         What::LongArgument => long_answer(alloc, given),
     }
 }

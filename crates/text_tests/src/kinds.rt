@@ -16,6 +16,7 @@ pub(crate) enum What {
     Script,
     Blank,
     Calls,
+    Often,
     LongArgument,
 }
 
@@ -73,6 +74,7 @@ fn of_scripts(word: &str) -> Option<Kind> {
         "script" => some_kind(What::Script, Wanted::Behind(" => ")),
         "blank" => some_kind(What::Blank, Wanted::Behind(" = ")),
         "calls" => some_kind(What::Calls, Wanted::Behind(" = ")),
+        "often" => some_kind(What::Often, Wanted::Behind(" = ")),
         "long-argument" => some_kind(What::LongArgument, Wanted::Behind(" = ")),
         _ => None,
     }

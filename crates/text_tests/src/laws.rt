@@ -10,9 +10,12 @@ fn scripts_have_laws() {
     script_reader::other_calls_are_refused();
     script_reader::fuel_is_a_line();
     script_reader::other_fuel_is_refused();
+    script_reader::cancel_is_a_line();
+    script_reader::other_cancels_are_refused();
+    script_reader::picks_are_a_line();
+    script_reader::other_picks_are_refused();
     script_reader::other_lines_are_refused();
     script_reader::scripts_call_exports();
-    script_reader::scripts_pick_nothing();
 }
 
 /// What holds of the format of values.

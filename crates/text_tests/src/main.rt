@@ -28,6 +28,8 @@
 //!   refused; `scripts_other_types` calls with texts, or with types that no script can write
 //! - `blank`: a script of so many spaces and the bytes behind them; what becomes of it is wanted
 //! - `calls`: a script of so many calls, where there are many exports; how many are read is wanted
+//! - `often`: so many times, the front of a script, and the part that it has so many times, with semicolons between them; how many
+//!   items and picks are read is wanted
 //! - `long-argument`: a script of one call with a list or a text of so many elements or bytes, which has nearly 1 MiB; how long it
 //!   is read is wanted
 //!
@@ -36,7 +38,7 @@
 //! - `reading`: what is read of a text, written as traces write it; `arguments`: the same of arguments; `limits`: long texts, and
 //!   bytes that are no text
 //! - `exports`: exports of texts; `escapes`: texts with escapes; `scripts`: the outcome of a reading as text; `script_cases`: what
-//!   scripts say; `script_limits`: the longest script, one with many calls, and two with one long value
+//!   scripts say; `script_limits`: long scripts
 //! - `laws`: what holds of the formats alone
 #![tactic(auto)]
 

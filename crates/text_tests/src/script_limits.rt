@@ -1,5 +1,6 @@
-//! The longest script, one with many calls, and two with one long value.
+//! The longest script, one with many calls, some that say a thing many times, and two with one long value.
 
+use crate::escapes::bytes_of;
 use crate::scripts::{Shown, outcome};
 use cases::bytes_of_lines;
 use std::alloc::{AllocError, Global};
@@ -68,6 +69,24 @@ fn push_times(text: &mut String, part: &str, times: usize) -> Result<(), AllocEr
         text.push_str(part)?;
     }
     Ok(())
+}
+
+/// A script of a front, and of a part that it has so many times.
+fn said_often(alloc: Global, count: usize, first: &str, part: &str) -> Result<Vec<u8>, AllocError> {
+    let mut script = bytes_of(alloc, first)?;
+    let part = bytes_of(alloc, part)?;
+    for _ in 0..count {
+        script.extend_from_slice(part.as_slice())?;
+    }
+    Ok(script)
+}
+
+/// How many items and picks are read of a script that says a thing so many times.
+pub(crate) fn often_answer(alloc: Global, given: &str) -> Result<String, Fail> {
+    let (count, parts) = given.split_once(';').unwrap_or((given, ""));
+    let (first, part) = parts.split_once(';').unwrap_or((parts, ""));
+    let script = said_often(alloc, number(count), first, part)?;
+    outcome(alloc, Shown::Sizes, &script, "zero:")
 }
 
 /// Writes the call of `sum` with a list of so many elements.

@@ -84,13 +84,20 @@ fn first_length(call: &Call) -> usize {
     }
 }
 
-/// Writes how many calls a script has, and how long the first argument of the first one is.
-fn write_sizes(text: &mut String, items: &[Item]) -> Result<(), AllocError> {
-    let length = match items.first() {
+/// How long the first argument is, where a call is the first item.
+fn length_at(items: &[Item]) -> usize {
+    match items.first() {
         Some(Item::Call(call)) => first_length(call),
         Some(Item::Cancel(_)) | None => 0,
-    };
-    write!(text, "{} calls, {length}", items.len())
+    }
+}
+
+/// Writes how many items and picks a script has, and how long the first argument of a first call is.
+fn write_sizes(text: &mut String, script: &Script) -> Result<(), AllocError> {
+    let items = script.items();
+    let picks = script.picks().len();
+    let length = length_at(items);
+    write!(text, "{} items, {picks} picks, {length}", items.len())
 }
 
 /// What is told of a script.
@@ -98,7 +105,7 @@ fn write_sizes(text: &mut String, items: &[Item]) -> Result<(), AllocError> {
 pub(crate) enum Shown {
     /// All that it says.
     All,
-    /// How many calls it has, and how long the first argument of the first one is.
+    /// How many items and picks it has, and how long the first argument of a first call is.
     Sizes,
 }
 
@@ -106,7 +113,7 @@ pub(crate) enum Shown {
 fn write_shown(text: &mut String, shown: Shown, script: &Script) -> Result<(), AllocError> {
     match shown {
         Shown::All => write_script(text, script),
-        Shown::Sizes => write_sizes(text, script.items()),
+        Shown::Sizes => write_sizes(text, script),
     }
 }
 

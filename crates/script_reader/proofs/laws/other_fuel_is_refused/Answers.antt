@@ -1,4 +1,4 @@
-use Rattle.script_reader.proofs.OtherFuel.{other_fuel_is_refused}
+use Rattle.script_reader.proofs.OtherNumbers.{other_fuel_is_refused}
 use Rattle.script_reader.proofs.laws.other_fuel_is_refused.Goals as goal
 
 pub returns : goal.returns
