@@ -162,6 +162,25 @@ def looping():
     return calling(b"", b"\x03\x40\x0c\x00\x0b\x0b")
 
 
+# What two calls of `f` of that component write: behind the first one none may enter.
+HELD_BACK = """take 1 T1 f ()
+enter T1
+do T1 backpressure.inc ()
+got T1 ()
+return T1 ()
+exit T1
+take 2 T2 f ()
+block T2 entry
+deadlock T2
+"""
+
+
+def held_back():
+    """A component whose `f` is `backpressure.inc`."""
+    built_in = formats.section(8, formats.vec([b"\x24"]))
+    return formats.component(built_in, formats.func_type([]), formats.lift(), formats.exports(["f"]))
+
+
 def statuses(add):
     """A call for each status that can come."""
     float_type = formats.component(bytes.fromhex("07020176"))
@@ -171,6 +190,7 @@ def statuses(add):
         Case("done", 0, out=SUM, component=add),
         Case("a trap", 1, out="take 1 T1 f ()\nenter T1\ntrap T1 Unreachable\n", component=trapping(b""), script=b"call f ()\n"),
         Case("a trap in a start function", 1, out="trap T0 Unreachable\n", component=trapping(formats.section(8, formats.u32(0))), script=b"call f ()\n"),
+        Case("a deadlock", 5, out=HELD_BACK, component=held_back(), script=b"call f ()\ncall f ()\n"),
         Case("no fuel in a loop", 6, out="take 1 T1 f ()\nenter T1\nfuel\n", component=looping(), script=b"call f ()\n"),
         Case("a dump", 0, out=SUM + "instance I1\n", component=add, words=DUMPING),
         Case("a dump behind a trap", 1, out="take 1 T1 f ()\nenter T1\ntrap T1 Unreachable\ninstance I1\n", component=trapping(b""), script=b"call f ()\n", words=DUMPING),

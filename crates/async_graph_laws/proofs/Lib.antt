@@ -1,4 +1,5 @@
 mod DefinitionsApart
 mod EndsTold
 mod GraphsTyped
+mod Lending
 mod ScriptsFor

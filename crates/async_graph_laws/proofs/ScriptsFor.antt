@@ -1,6 +1,6 @@
 -- A script whose items call exports of a graph is for it.
 use Rattle.std.proofs.Common.{◌≡◌, ◌∙◌, ◌+◌, ℕ, suc, zero, List, [], ◌∷◌, map, Option, Some, None, refl, ap}
-use Rattle.std.specs.List.{slice_get, AllByRecursion, AllZip}
+use Rattle.std.specs.List.{slice_get, AllZip}
 use Rattle.std.specs.Option.{option_and_then}
 use Rattle.ca_base.specs.Names.{first_named}
 use Rattle.ca_base.proofs.FirstNamed.{found_by_name}
@@ -11,14 +11,14 @@ use Rattle.comp_graph.specs.Graph.{Graph, Lifted, lifted_as, func_named, names, 
 use Rattle.script_reader.specs.declared.script.Call.{Call}
 use Rattle.script_reader.specs.declared.script.Item.{Item}
 use Rattle.script_reader.specs.declared.script.Item.TheVariants as item
-use Rattle.script_reader.specs.Script.{export_named, CallsExport}
+use Rattle.script_reader.specs.Script.{export_named, CallsExport, AreItems}
 use Rattle.script_reader.specs.Laws.{ScriptsCallExports}
 use Rattle.abi_machine.specs.sound.Callees.{IsUsedGraph}
 use Rattle.abi_machine.specs.sound.Scripts.{IsCallFor, AreItemsFor}
 use Rattle.async_graph_laws.specs.Laws.{LinkedGraphsAreUsed, CallsAreForGraphs, ReadScriptsAreForGraphs}
 
 -- what stands behind a look-up
-then_some : {A B : Type 0} (f : A → Option B) (o : Option A) (y : B) → option_and_then f o ≡ Some y → (x : A) × (o ≡ Some x) × (f x ≡ Some y)
+pub then_some : {A B : Type 0} (f : A → Option B) (o : Option A) (y : B) → option_and_then f o ≡ Some y → (x : A) × (o ≡ Some x) × (f x ≡ Some y)
 then_some f None y h = cc
 then_some f (Some x) y h = (x, refl, h)
 
@@ -30,7 +30,7 @@ lifted_there R (x ∷ xs) [] n e all h = absurd all
 lifted_there R (x ∷ xs) (c ∷ cs) zero e all h = (c, refl)
 lifted_there R (x ∷ xs) (c ∷ cs) (suc n) e all h = lifted_there R xs cs n e all.1 h
 
-call_for : (g : Graph) (call : Call) → IsUsedGraph g → CallsExport g.exports (item.Call call) → IsCallFor g call
+call_for : (g : Graph) (call : Call) → IsUsedGraph g → CallsExport g.exports call → IsCallFor g call
 call_for g call used h =
     let found = found_by_name (λ (e : Export). e.name) g.exports call.name ∙ h.1 in
     let number = then_some (λ (k : ℕ). slice_get g.exports k) (first_named call.name (names g.exports)) h.0 found in
@@ -42,13 +42,13 @@ call_for g call used h =
       values = h.2;
     }
 
-items_for : (g : Graph) (calls : ℕ) (items : List Item) → IsUsedGraph g → AllByRecursion (CallsExport g.exports) items → AreItemsFor g calls items
+items_for : (g : Graph) (calls : ℕ) (items : List Item) → IsUsedGraph g → AreItems g.exports calls items → AreItemsFor g calls items
 items_for g calls [] used h = tt
-items_for g calls (item.Cancel call ∷ items) used h = absurd h.0
+items_for g calls (item.Cancel number ∷ items) used h = (h.0, h.1, items_for g calls items used h.2)
 items_for g calls (item.Call call ∷ items) used h = (call_for g call used h.0, items_for g (calls + 1) items used h.1)
 
 pub calls_are_for_graphs : CallsAreForGraphs
 calls_are_for_graphs g s used h = items_for g 0 s.items used h
 
 pub read_scripts_are_for_graphs : LinkedGraphsAreUsed → ScriptsCallExports → ReadScriptsAreForGraphs
-read_scripts_are_for_graphs used calls c g bytes s linked read = calls_are_for_graphs g s (used c g linked) (calls g.exports bytes s read)
+read_scripts_are_for_graphs used calls c g bytes s linked read = calls_are_for_graphs g s (used c g linked) (calls g.exports bytes s read).0

@@ -1,20 +1,20 @@
 -- What the laws of asynchronous calls ask of a graph, of the graph to which a component is linked (Component Model, Explainer.md, "Instance
 -- Definitions" and "Canonical Definitions"), where it asks something of modules also of one that is read (Binary.md, "Core Definitions").
 use Rattle.std.specs.Prelude.{ℕ, List}
-use Rattle.std.specs.List.{AllByRecursion}
 use Rattle.wasm_module.specs.declared.module.ModuleTree.{ModuleTree}
 use Rattle.wasm_typing.specs.Modules.{Typed}
 use Rattle.wasm_store.specs.Instantiation.{InRange}
 use Rattle.comp_tree.specs.declared.items.Component.{Component}
 use Rattle.comp_reader.specs.Binary.{IsComponent}
 use Rattle.comp_graph.specs.Graph.{Graph}
-use Rattle.script_reader.specs.Script.{Script, IsScript, CallsExport}
+use Rattle.script_reader.specs.Script.{Script, IsScript, AreItems}
 use Rattle.link_spec.specs.Standing.{StandsIn}
 use Rattle.link_spec.specs.Linked.{IsLinked}
 use Rattle.abi_machine.specs.sound.Owners.{IsApart}
 use Rattle.abi_machine.specs.sound.MadeInstances.{IsTypedGraph}
 use Rattle.abi_machine.specs.sound.Callees.{IsUsedGraph}
 use Rattle.abi_machine.specs.sound.Scripts.{IsScriptFor}
+use Rattle.abi_machine.specs.sound.PassedTypes.{PassesNoBorrow}
 use Rattle.async_graph_laws.specs.Ends.{TellsEnds}
 
 -- Core definitions stay in the component instance that makes them: also callbacks, what built-ins use, and destructors.
@@ -32,9 +32,9 @@ ReadGraphsAreTyped = (bytes : List ℕ) (c : Component) (g : Graph) → IsCompon
 abbrev pub LinkedGraphsAreUsed : Type 0
 LinkedGraphsAreUsed = (c : Component) (g : Graph) → IsLinked c g → IsUsedGraph g
 
--- A script whose items call exports of a graph that has what its lifts use is for it, and so is one that is read for the exports of a linked graph.
+-- A script whose items call exports of a graph that has what its lifts use, or cancel calls before them, is for it, and so is one that is read for the exports of a linked graph.
 abbrev pub CallsAreForGraphs : Type 0
-CallsAreForGraphs = (g : Graph) (s : Script) → IsUsedGraph g → AllByRecursion (CallsExport g.exports) s.items → IsScriptFor g s
+CallsAreForGraphs = (g : Graph) (s : Script) → IsUsedGraph g → AreItems g.exports 0 s.items → IsScriptFor g s
 
 abbrev pub ReadScriptsAreForGraphs : Type 0
 ReadScriptsAreForGraphs = (c : Component) (g : Graph) (bytes : List ℕ) (s : Script) → IsLinked c g → IsScript g.exports bytes s → IsScriptFor g s
@@ -42,3 +42,7 @@ ReadScriptsAreForGraphs = (c : Component) (g : Graph) (bytes : List ℕ) (s : Sc
 -- Every linked graph tells the type of each of its built-ins of ends, and none twice.
 abbrev pub LinkedGraphsTellEnds : Type 0
 LinkedGraphsTellEnds = (c : Component) (g : Graph) → IsLinked c g → TellsEnds g
+
+-- No borrowed handle is in what functions of a linked graph give, or in what passes in its streams and futures.
+abbrev pub LinkedGraphsPassNoBorrow : Type 0
+LinkedGraphsPassNoBorrow = (c : Component) (g : Graph) → IsLinked c g → PassesNoBorrow g

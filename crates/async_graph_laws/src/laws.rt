@@ -1,6 +1,6 @@
 //! What the laws of asynchronous calls ask of a graph holds of every linked one.
 
-ghost use Rattle.async_graph_laws.specs.Laws.{LinkedDefinitionsAreApart, LinkedGraphsAreTyped, ReadGraphsAreTyped, LinkedGraphsAreUsed, LinkedGraphsTellEnds, CallsAreForGraphs, ReadScriptsAreForGraphs};
+ghost use Rattle.async_graph_laws.specs.Laws.{LinkedDefinitionsAreApart, LinkedGraphsAreTyped, ReadGraphsAreTyped, LinkedGraphsAreUsed, LinkedGraphsTellEnds, LinkedGraphsPassNoBorrow, CallsAreForGraphs, ReadScriptsAreForGraphs};
 
 use graph_laws::laws::read_modules_are_typed;
 use link_spec::laws::graphs_are_sound;
@@ -40,3 +40,11 @@ pub fn scripts_are_for_graphs()
 pub fn linked_graphs_tell_ends()
     ensures { LinkedGraphsTellEnds }
 {}
+
+/// No borrowed handle is in what an export or a function that is lowered gives, in what `task.return` returns, or in what passes in the
+/// streams and the futures of a linked graph: a handle is borrowed for a call alone. So loans that a call holds are given back.
+pub fn linked_graphs_pass_no_borrow()
+    ensures { LinkedGraphsPassNoBorrow }
+{
+    graphs_are_sound();
+}

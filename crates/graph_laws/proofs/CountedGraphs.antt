@@ -1,5 +1,5 @@
 -- What can be called of a component whose types are written so has marked types, with ends or without, with labels that are many or
--- counted. What is read has counted labels, and so has what passes no end.
+-- counted. What is read has counted labels, and so has what passes no handle and no end.
 use Rattle.std.proofs.Common.{◌≡◌, ℕ, Bool, true, false, List, ◌∷◌, ◌∙◌, map, sym, subst, Option, Some, None}
 use Rattle.std.specs.List.{slice_get}
 use Rattle.std.specs.Option.{option_map, option_and_then, IfSome}
@@ -20,13 +20,12 @@ use Rattle.comp_graph.specs.Closed.{Closed, OfFunc, OfType, OfInstance, Externs,
 use Rattle.link_spec.specs.Definitions.{Lifted, types_of}
 use Rattle.link_spec.specs.Spaces.{Spaces, Linking, Level, level_of, listed_level, levels_at}
 use Rattle.link_spec.specs.Types.{meaning_of}
-use Rattle.link_spec.specs.Items.{StandsFor, wanted}
+use Rattle.link_spec.specs.Items.{StandsFor, type_given, given_for, wanted}
 use Rattle.link_spec.specs.Linked.{exports_at, Links, root_begun, callables, export_of, graph_of, IsLinked}
 use Rattle.link_spec.proofs.Holding.{all_weaker, all_mapped, all_flat, all_at, holds_at, if_weaker, if_mapped, if_found}
 use Rattle.comp_reader.specs.Binary.{IsComponent}
 use Rattle.canonical_machine.specs.Sound.{AreBytes}
 use Rattle.canonical_machine.specs.Synchronous.{called_type}
-use Rattle.sync_items.specs.Graphs.{passes_no_ends}
 use Rattle.graph_laws.specs.Laws.{ReadTypesAreCounted, ReadTypesAreLabelled}
 use Rattle.graph_laws.proofs.ComponentTypes.{types_have}
 use Rattle.graph_laws.specs.Counted.{is_labelled, HasLabelledTypes}
@@ -34,7 +33,7 @@ use Rattle.graph_laws.proofs.Marked.{is_marked, HasMarkedTypes, HasMarkedFuncs, 
 use Rattle.graph_laws.proofs.Unended.{closed_up}
 use Rattle.graph_laws.proofs.TypesStand as stands
 use Rattle.graph_laws.proofs.TypesStand.{shape_has, behind_have}
-use Rattle.graph_laws.proofs.CountedTypes.{IsCounted, IsExternCounted, AreCounted, IsKnownCounted, of_func_counted, desc_counted}
+use Rattle.graph_laws.proofs.CountedTypes.{IsCounted, IsExternCounted, AreCounted, IsKnownCounted, of_func_counted, meant_counted}
 use Rattle.graph_laws.proofs.CountedMeanings.{IsLevelCounted, AreLevelsCounted, meaning_counted}
 use Rattle.graph_laws.proofs.SpacesHold.{Known, AreDefined, AreSpaces, IsLinking}
 use Rattle.graph_laws.proofs.LinkingsHold.{AreSteps, called_held, linked_held}
@@ -85,9 +84,9 @@ module _ (ends many : Bool) where
   types_counted (WithExtern others name (OfType type)) h = (types_counted others h.0, h.1)
   types_counted (WithExtern others name (OfInstance inner)) h = types_counted others h.0
 
-  asked_counted : (s : Spaces) (asked : ExternDesc) (externs : Externs) → AreSpaces counted s → (wanted s asked).means ≡ Some (OfInstance externs) → AreDefined counted (types_of externs)
-  asked_counted s asked externs k means =
-      types_counted externs (holds_at (IsExternCounted ends many) (wanted s asked).means (OfInstance externs) (desc_counted ends many (map Some s.types) asked (level_counted s k)) means)
+  asked_counted : (s : Spaces) (name : List ℕ) (asked : ExternDesc) (externs : Externs) → AreSpaces counted s → (wanted s name asked).means ≡ Some (OfInstance externs) → AreDefined counted (types_of externs)
+  asked_counted s name asked externs k means =
+      types_counted externs (holds_at (IsExternCounted ends many) (wanted s name asked).means (OfInstance externs) (meant_counted ends many (map Some s.types) (type_given (given_for s name)) asked (level_counted s k)) means)
 
   func_counted : (s : Spaces) (t : ℕ) (type : FuncType) → AreSpaces counted s → option_and_then func_of (slice_get s.types t) ≡ Some type → HasCountedTypes type
   func_counted s t type k of_type =

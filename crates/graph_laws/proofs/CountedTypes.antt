@@ -17,6 +17,7 @@ use Rattle.ca_types.specs.declared.types.Param.{Param}
 use Rattle.ca_types.specs.declared.types.FuncType.{FuncType}
 use Rattle.ca_types.proofs.Folds.{held}
 use Rattle.laid_types.specs.Depth.{depth}
+use Rattle.laid_types.specs.Handles.{held_borrow}
 use Rattle.value_lift.proofs.Views as seen
 use Rattle.value_reader.specs.Writable.{all_true, true_if_some}
 use Rattle.comp_tree.specs.declared.externs.ExternDesc.{ExternDesc}
@@ -34,9 +35,10 @@ use Rattle.comp_tree.specs.declared.types.FuncType as read_func
 use Rattle.comp_graph.specs.Closed.{Closed, Value, Func, Instance, Resource, Extern, OfFunc, OfType, OfInstance, Externs, EmptyType, WithExtern, extern_named, first_of, externs_of, func_of, value_of}
 use Rattle.link_spec.specs.Shallow.{depth_limit}
 use Rattle.link_spec.specs.Meaning.{absent, meant, too_deep, found}
-use Rattle.link_spec.specs.ValueTypes.{primitive, close_val, close_held, close_all, close_field, close_case, close_parts, is_well_made, are_labels, parts_within, close_def, capped, value_meaning}
-use Rattle.link_spec.specs.Types.{close_param, close_params, close_func, all_within, func_meaning, desc_meaning}
+use Rattle.link_spec.specs.ValueTypes.{primitive, close_val, close_held, without_borrow, close_passed, close_resource, close_all, close_field, close_case, close_parts, is_well_made, are_labels, parts_within, close_def, capped, value_meaning}
+use Rattle.link_spec.specs.Types.{close_param, close_params, close_func, all_within, func_meaning, desc_meaning, resource_meant, given_meaning}
 use Rattle.link_spec.proofs.Holding.{all_at, if_weaker, if_mapped, if_found, if_cond}
+use Rattle.graph_laws.proofs.SpacesApart.{if_always}
 use Rattle.graph_laws.proofs.Counting.{length_mapped}
 use Rattle.graph_laws.proofs.Marked.{is_marked, HasMarkedTypes, marked_in, marked_is}
 use Rattle.graph_laws.proofs.TypesStand as stands
@@ -118,6 +120,13 @@ module _ (ends many : Bool) where
   held_counted : (types : List (Option Closed)) (type : Option ValTypeRef) → AllByRecursion IsKnownCounted types → IfSome (close_held types type) IsHeldCounted
   held_counted types None h = refl
   held_counted types (Some type) h = if_mapped (λ t. Some t) IsHeldCounted (close_val types type) (val_counted types type h)
+
+  passed_of_held : (o : Option (Option ValType)) → IfSome o IsHeldCounted → IfSome (option_and_then without_borrow o) IsHeldCounted
+  passed_of_held None h = tt
+  passed_of_held (Some held) h = if_cond IsHeldCounted (held_borrow held) None (Some held) tt h
+
+  passed_counted : (types : List (Option Closed)) (type : Option ValTypeRef) → AllByRecursion IsKnownCounted types → IfSome (close_passed types type) IsHeldCounted
+  passed_counted types type h = passed_of_held (close_held types type) (held_counted types type h)
 
   held_is : (o : Option ValType) → IsHeldCounted o → IfSome o IsCountedType
   held_is None h = tt
@@ -203,14 +212,18 @@ module _ (ends many : Bool) where
       (λ o k. if_mapped (λ err. val_type.Result o err) IsCountedType (close_held types err)
       (if_weaker IsHeldCounted (λ (e : Option ValType). IsCountedType (val_type.Result o e)) (λ e j. result_counted o e k j) (close_held types err) (held_counted types err h)))
       (close_held types ok) (held_counted types ok h)
-  parts_counted types (written.Own resource) h few made = tt
-  parts_counted types (written.Borrow resource) h few made = tt
+  parts_counted types (written.Own resource) h few made =
+      if_mapped leaves.Own IsCountedType (close_resource types resource)
+      (if_always (λ (n : ℕ). IsCountedType (leaves.Own n)) (close_resource types resource) (λ n. by_out (leaves.Own n) (F.Own n) (seen.out_own n) few))
+  parts_counted types (written.Borrow resource) h few made =
+      if_mapped leaves.Borrow IsCountedType (close_resource types resource)
+      (if_always (λ (n : ℕ). IsCountedType (leaves.Borrow n)) (close_resource types resource) (λ n. by_out (leaves.Borrow n) (F.Borrow n) (seen.out_borrow n) few))
   parts_counted types (written.Stream element) h few made =
-      if_mapped val_type.Stream IsCountedType (close_held types element)
-      (if_weaker IsHeldCounted (λ (o : Option ValType). IsCountedType (val_type.Stream o)) (λ o k. stream_counted o few k) (close_held types element) (held_counted types element h))
+      if_mapped val_type.Stream IsCountedType (close_passed types element)
+      (if_weaker IsHeldCounted (λ (o : Option ValType). IsCountedType (val_type.Stream o)) (λ o k. stream_counted o few k) (close_passed types element) (passed_counted types element h))
   parts_counted types (written.Future element) h few made =
-      if_mapped val_type.Future IsCountedType (close_held types element)
-      (if_weaker IsHeldCounted (λ (o : Option ValType). IsCountedType (val_type.Future o)) (λ o k. future_counted o few k) (close_held types element) (held_counted types element h))
+      if_mapped val_type.Future IsCountedType (close_passed types element)
+      (if_weaker IsHeldCounted (λ (o : Option ValType). IsCountedType (val_type.Future o)) (λ o k. future_counted o few k) (close_passed types element) (passed_counted types element h))
 
   def_counted : (types : List (Option Closed)) (type : DefValType) → AllByRecursion IsKnownCounted types → is_few type ≡ true → IfSome (close_def types type) IsCountedType
   def_counted types type h few = by_test (is_well_made type) refl
@@ -244,9 +257,9 @@ module _ (ends many : Bool) where
   func_counted : (types : List (Option Closed)) (type : read_func.FuncType) → AllByRecursion IsKnownCounted types → IfSome (close_func types type) HasCountedTypes
   func_counted types type h =
       if_cond HasCountedTypes (is_none (first_twice (map (λ (p : read_param.Param). p.label) type.params))) _ None
-      (if_found (λ params. option_map (λ returned. (let f : FuncType = record { params = params; result = returned } in f)) (close_held types type.result)) (AllClosed IsParamCounted type.params) HasCountedTypes
-      (λ params k. if_mapped (λ returned. (let f : FuncType = record { params = params; result = returned } in f)) HasCountedTypes (close_held types type.result)
-      (if_weaker IsHeldCounted (λ (returned : Option ValType). HasCountedTypes (record { params = params; result = returned })) (λ returned j. record { params = k.0; returned = held_is returned j }) (close_held types type.result) (held_counted types type.result h)))
+      (if_found (λ params. option_map (λ returned. (let f : FuncType = record { params = params; result = returned } in f)) (close_passed types type.result)) (AllClosed IsParamCounted type.params) HasCountedTypes
+      (λ params k. if_mapped (λ returned. (let f : FuncType = record { params = params; result = returned } in f)) HasCountedTypes (close_passed types type.result)
+      (if_weaker IsHeldCounted (λ (returned : Option ValType). HasCountedTypes (record { params = params; result = returned })) (λ returned j. record { params = k.0; returned = held_is returned j }) (close_passed types type.result) (passed_counted types type.result h)))
       (close_params types type.params) (all_closed IsParamCounted (close_param types) type.params (λ p. param_counted types p h))) tt
 
   pub func_meaning_counted : (types : List (Option Closed)) (type : read_func.FuncType) → AllByRecursion IsKnownCounted types → IfSome (func_meaning types type).means IsCounted
@@ -281,6 +294,19 @@ module _ (ends many : Bool) where
   desc_counted types (desc.Instance index) h =
       found_counted (λ type. option_map OfInstance (externs_of type)) IsCounted IsExternCounted (λ type k. if_mapped OfInstance IsExternCounted (externs_of type) (of_externs_counted type k)) (slice_get types index) (all_at IsKnownCounted types index h)
   desc_counted types desc.Resource h = tt
+
+  resource_counted : (given : Option Closed) → IfSome (resource_meant given).means IsExternCounted
+  resource_counted (Some (Resource number)) = tt
+  resource_counted (Some (Value type)) = tt
+  resource_counted (Some (Func type)) = tt
+  resource_counted (Some (Instance externs)) = tt
+  resource_counted None = tt
+
+  pub meant_counted : (types : List (Option Closed)) (given : Option Closed) (asked : ExternDesc) → AllByRecursion IsKnownCounted types → IfSome (given_meaning types given asked).means IsExternCounted
+  meant_counted types given (desc.Func index) h = desc_counted types (desc.Func index) h
+  meant_counted types given (desc.TypeEq index) h = desc_counted types (desc.TypeEq index) h
+  meant_counted types given (desc.Instance index) h = desc_counted types (desc.Instance index) h
+  meant_counted types given desc.Resource h = resource_counted given
 
   -- the export of a name
   first_counted : (a b : Option Extern) → IfSome a IsExternCounted → IfSome b IsExternCounted → IfSome (first_of a b) IsExternCounted

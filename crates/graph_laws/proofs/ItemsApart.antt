@@ -41,6 +41,7 @@ use Rattle.link_spec.specs.Spaces.{Spaces, Linking, core_item_at, definition_at,
 use Rattle.link_spec.specs.Ends.{noted_type}
 use Rattle.link_spec.specs.Resources.{resource_written, with_resource, resource_makes}
 use Rattle.link_spec.specs.Canons.{given_by}
+use Rattle.link_spec.specs.Types.{Meaning}
 use Rattle.link_spec.specs.Builtins.{builtin_meaning}
 use Rattle.link_spec.specs.Items.{argument_named, import_found, FindsItem, IsInline, core_made, core_instance_makes, instance_makes, alias_makes, lifted_with, lift_makes, with_canon, lowered_with, lower_makes, builtin_makes, IsImported, import_makes, said, IsExported, export_makes, type_meaning, defined_makes, makes_case}
 use Rattle.link_spec.proofs.Holding.{all_push, all_mapped, all_flat, all_at, all_second, holds_at, if_mapped, if_found, if_each, if_cond, last_there}
@@ -261,13 +262,13 @@ import_reached l n s name asked new h k (extern, d, means, fresh, imported, made
     defined_reached l n (record s { imports = s.imports ++ name ∷ [] }) d new h (with_imports_apart (made_by l) n s (s.imports ++ name ∷ []) k) made
     (imported_apart (made_by l) s.arguments name extern d k.passed imported)
 
-exported_apart : (g : Graph) (s : Spaces) (asked : Option ExternDesc) (d x : Definition) → IsDefinedApart g d → IsExported (said s asked) d x → IsDefinedApart g x
-exported_apart g s None d x h e = subst (IsDefinedApart g) (sym e) h
-exported_apart g s (Some asked) d x h (extern, means, fits, e) = subst (IsDefinedApart g) (sym e) (seen_apart g d extern h)
+exported_apart : (g : Graph) (meaning : Option (Meaning Extern)) (d x : Definition) → IsDefinedApart g d → IsExported meaning d x → IsDefinedApart g x
+exported_apart g None d x h e = subst (IsDefinedApart g) (sym e) h
+exported_apart g (Some meaning) d x h (extern, means, fits, e) = subst (IsDefinedApart g) (sym e) (seen_apart g d extern h)
 
 export_reached : (l : Linking) (n : ℕ) (s : Spaces) (e : read.Export) (new : Linking) → IsLinkingApart l → AreSpacesApart (made_by l) n s → export_makes l n s e new → IsReachedApart l new
 export_reached l n s e new h k (d, x, is, fresh, exported, made) =
-    let apart = exported_apart (made_by l) s e.desc d x (holds_at (IsDefinedApart (made_by l)) (definition_at s e.sort e.index) d (definition_apart (made_by l) n s e.sort e.index k) is) exported in
+    let apart = exported_apart (made_by l) (said s e) d x (holds_at (IsDefinedApart (made_by l)) (definition_at s e.sort e.index) d (definition_apart (made_by l) n s e.sort e.index k) is) exported in
     defined_reached l n (record s { exports = WithExport s.exports e.name x }) x new h (with_exports_apart (made_by l) n s (WithExport s.exports e.name x) k (k.exported, apart)) made apart
 
 -- Items.

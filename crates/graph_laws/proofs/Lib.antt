@@ -24,5 +24,3 @@ mod CountedGraphs
 mod TypesRead
 mod ComponentTypes
 mod PlainTypes
-pub mod Endless
-mod OtherItems

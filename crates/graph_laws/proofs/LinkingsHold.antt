@@ -35,7 +35,7 @@ use Rattle.link_spec.specs.Ends.{noted_type}
 use Rattle.link_spec.specs.Canons.{given_by}
 use Rattle.link_spec.specs.Builtins.{builtin_meaning}
 use Rattle.link_spec.specs.Resources.{resource_written, with_resource, resource_makes}
-use Rattle.link_spec.specs.Types.{meaning_of}
+use Rattle.link_spec.specs.Types.{Meaning, meaning_of}
 use Rattle.link_spec.specs.Items.{core_instance_makes, instance_makes, alias_makes, StandsFor, lifted_with, lift_makes, with_canon, lowered_with, lower_makes, builtin_makes, wanted, IsImported, import_makes, said, IsExported, export_makes, type_meaning, defined_makes, makes_case}
 use Rattle.link_spec.specs.Linked.{Begins, begun, exports_or, exports_at, with_instance, Links, leads_by_making, leads_by_instance, no_items, item_links, root_begun, Callable, funcs_behind, callables}
 use Rattle.link_spec.proofs.Holding.{all_push, all_set, all_both, all_at, holds_at, if_found}
@@ -49,7 +49,7 @@ pub record AreSteps (K : Known) (S : Item-F Item Component → Type 0) : Type 0 
   pub types : (l : Linking) (n : ℕ) (s : Spaces) (type : DefType) (closed : Closed) → S (Item-F.Type type) → IsLinking K l → StandsFor (meaning_of type (levels_at l (n ∷ s.around))) closed → K.type closed
   pub resources : (l : Linking) (n : ℕ) (type : DefType) (index : Option ℕ) (core : Option FuncRef)
       → S (Item-F.Type type) → resource_written (out-DefType type) ≡ Some index → K.type (Resource (suc (length l.resources))) × K.resource (record { instance = n; destructor = core })
-  pub asked : (s : Spaces) (desc : ExternDesc) (externs : Externs) → AreSpaces K s → (wanted s desc).means ≡ Some (OfInstance externs) → AreDefined K (types_of externs)
+  pub asked : (s : Spaces) (name : List ℕ) (desc : ExternDesc) (externs : Externs) → AreSpaces K s → (wanted s name desc).means ≡ Some (OfInstance externs) → AreDefined K (types_of externs)
   pub lifts : (n : ℕ) (s : Spaces) (f : ℕ) (options : List CanonOption) (t : ℕ) (type : FuncType) (core : FuncRef)
       → S (Item-F.Canon (Lift f options t)) → AreSpaces K s → option_and_then func_of (slice_get s.types t) ≡ Some type → K.func (lifted_with n type core (given_by s options))
   pub lowers : (n : ℕ) (s : Spaces) (f : ℕ) (options : List CanonOption) (func : Lifted) → S (Item-F.Canon (Lower f options)) → K.func func → K.canon (lowered_with n func (given_by s options))
@@ -117,13 +117,13 @@ module _ (K : Known) where
   destructor_held l n s (Some f) new h k known (item, core, is, of_item, fits, made) = resource_held l n s (Some core) new h k (known (Some core)) made
 
   -- Exports.
-  exported_held : (s : Spaces) (asked : Option ExternDesc) (d x : Definition) → IsDefined K d → IsExported (said s asked) d x → IsDefined K x
-  exported_held s None d x h e = subst (IsDefined K) (sym e) h
-  exported_held s (Some asked) d x h (extern, means, fits, e) = subst (IsDefined K) (sym e) (seen_held K d extern h)
+  exported_held : (meaning : Option (Meaning Extern)) (d x : Definition) → IsDefined K d → IsExported meaning d x → IsDefined K x
+  exported_held None d x h e = subst (IsDefined K) (sym e) h
+  exported_held (Some meaning) d x h (extern, means, fits, e) = subst (IsDefined K) (sym e) (seen_held K d extern h)
 
   export_made : (l : Linking) (n : ℕ) (s : Spaces) (e : read.Export) (new : Linking) → IsLinking K l → AreSpaces K s → export_makes l n s e new → IsLinking K new
   export_made l n s e new h k (d, x, is, fresh, exported, made) =
-      let known = exported_held s e.desc d x (holds_at (IsDefined K) (definition_at s e.sort e.index) d (definition_held K s e.sort e.index k) is) exported in
+      let known = exported_held (said s e) d x (holds_at (IsDefined K) (definition_at s e.sort e.index) d (definition_held K s e.sort e.index k) is) exported in
       defined l n (record s { exports = WithExport s.exports e.name x }) x new h (with_exports K s (WithExport s.exports e.name x) k (k.exported, known)) made known
 
   -- An instance of a component begins, and ends.
@@ -185,9 +185,9 @@ module _ (K : Known) (S : Item-F Item Component → Type 0) (are : AreSteps K S)
 
   -- Imports.
   imported_held : (s : Spaces) (name : List ℕ) (asked : ExternDesc) (extern : Extern) (arguments : Option Exports) (d : Definition)
-      → AreSpaces K s → IfSome arguments (AreDefined K) → (wanted s asked).means ≡ Some extern → IsImported arguments name extern d → IsDefined K d
+      → AreSpaces K s → IfSome arguments (AreDefined K) → (wanted s name asked).means ≡ Some extern → IsImported arguments name extern d → IsDefined K d
   imported_held s name asked extern (Some given) d k h means (x, is, fits, e) = subst (IsDefined K) (sym e) (seen_held K x extern (holds_at (IsDefined K) (export_named name given) x (export_held K name given h) is))
-  imported_held s name asked (OfInstance externs) None d k h means (types, e) = subst (IsDefined K) (sym e) (are.asked s asked externs k means)
+  imported_held s name asked (OfInstance externs) None d k h means (types, e) = subst (IsDefined K) (sym e) (are.asked s name asked externs k means)
   imported_held s name asked (OfFunc type) None d k h means i = absurd i
   imported_held s name asked (OfType type) None d k h means i = absurd i
 

@@ -1,5 +1,5 @@
--- Types that hold no handle, where it is told apart whether they may hold the end of a stream or a future, and whether labels may be
--- more than are counted.
+-- Types, where it is told apart whether they may hold a handle or the end of a stream or a future, and whether labels may be more than are
+-- counted.
 use mathlib.Core.Path.{fun_ext}
 use Rattle.std.proofs.Common.{◌≡◌, ◌∙◌, ◌^◌, Bool, true, false, length, refl, ap}
 use Rattle.std.specs.Prelude.{◌&&◌, ◌||◌, nat_lt, nat_le, IfSome}
@@ -33,8 +33,8 @@ marked_step ends many (F.Flags labels) = many || nat_le (length labels) 32
 marked_step ends many (F.Enum labels) = many || nat_lt (length labels) (2 ^ 32)
 marked_step ends many (F.Option part) = part
 marked_step ends many (F.Result ok err) = true_if_some ok && true_if_some err
-marked_step ends many (F.Own resource) = false
-marked_step ends many (F.Borrow resource) = false
+marked_step ends many (F.Own resource) = ends
+marked_step ends many (F.Borrow resource) = ends
 marked_step ends many (F.Stream element) = ends && true_if_some element
 marked_step ends many (F.Future element) = ends && true_if_some element
 marked_step ends many _ = true

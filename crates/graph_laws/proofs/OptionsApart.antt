@@ -19,7 +19,7 @@ use Rattle.link_spec.specs.Definitions.{CoreItem, Func, Table, Memory, Global}
 use Rattle.link_spec.specs.Spaces.{Spaces, Linking}
 use Rattle.link_spec.specs.Canons.{memory_index, realloc_index, post_return_index, callback_index, first_index, given_by, options_of}
 use Rattle.link_spec.specs.Builtins.{elements_at, end_op_of, builtin_meaning}
-use Rattle.link_spec.specs.ValueTypes.{close_held}
+use Rattle.link_spec.specs.ValueTypes.{close_passed}
 use Rattle.link_spec.proofs.Holding.{all_at, holds_at, if_weaker, if_mapped, if_found, if_each}
 use Rattle.canonical_machine.specs.Owners.{owner_of_core, owner_of_func}
 use Rattle.graph_laws.proofs.Owning.{OwnsOptions, OwnsEnd, OwnsKind, IsItemOf, AreSpacesApart}
@@ -73,8 +73,8 @@ module _ (g : Graph) (owner : ℕ) (s : Spaces) (apart : AreSpacesApart g owner 
   builtin_uses l n (read_builtin.Plain b) = tt
   builtin_uses l n (read_builtin.Context op slot) = tt
   builtin_uses l n (read_builtin.TaskReturn result options) =
-      if_mapped (λ (type : Option ValType). builtin.TaskReturn type (options_of (given_by s options))) (OwnsKind g owner) (close_held (map Some s.types) result)
-      (if_always (λ (type : Option ValType). OwnsKind g owner (builtin.TaskReturn type (options_of (given_by s options)))) (close_held (map Some s.types) result) (λ type. options_own options))
+      if_mapped (λ (type : Option ValType). builtin.TaskReturn type (options_of (given_by s options))) (OwnsKind g owner) (close_passed (map Some s.types) result)
+      (if_always (λ (type : Option ValType). OwnsKind g owner (builtin.TaskReturn type (options_of (given_by s options)))) (close_passed (map Some s.types) result) (λ type. options_own options))
   builtin_uses l n (read_builtin.Wait op cancellable memory) =
       if_mapped (λ (m : CoreRef). builtin.Wait op cancellable m) (OwnsKind g owner) (option_and_then core_memory_of (slice_get s.core_memories memory))
       (if_weaker (λ (m : CoreRef). owner_of_core g m.instance ≡ Some owner) (λ (m : CoreRef). OwnsKind g owner (builtin.Wait op cancellable m)) (λ m e. e) (option_and_then core_memory_of (slice_get s.core_memories memory)) (memory_at memory))

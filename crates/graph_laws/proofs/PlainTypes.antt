@@ -28,13 +28,13 @@ use Rattle.graph_laws.specs.Laws.{CountedGraphsArePlain}
 use Rattle.graph_laws.proofs.CountedTypes.{tuple_counted}
 
 -- Both tests by the outer layer.
-abbrev handle_in : F.ValType-F ValType Case Field → Bool
+abbrev pub handle_in : F.ValType-F ValType Case Field → Bool
 handle_in y = handle_step (map-ValType ValType Case Field Bool Bool Bool has_handle (λ (c : Case). part_true (held has_handle c.payload)) (λ (f : Field). has_handle f.val_type) y)
 
 abbrev end_in : F.ValType-F ValType Case Field → Bool
 end_in y = end_step (map-ValType ValType Case Field Bool Bool Bool has_end (λ (c : Case). part_true (held has_end c.payload)) (λ (f : Field). has_end f.val_type) y)
 
-handle_is : (t : ValType) → has_handle t ≡ handle_in (out-ValType t)
+pub handle_is : (t : ValType) → has_handle t ≡ handle_in (out-ValType t)
 handle_is t =
     by_layer Bool Bool Bool handle_step end_case end_field (λ (c : Case). part_true (held has_handle c.payload)) (λ (f : Field). has_handle f.val_type)
     (fold_case Bool Bool Bool handle_step end_case end_field) (fold_field Bool Bool Bool handle_step end_case end_field) t

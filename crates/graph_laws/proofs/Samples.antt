@@ -29,7 +29,7 @@ use Rattle.link_spec.specs.Linked.{root_begun}
 use Rattle.link_spec.specs.Computed.{after, Run, step, run, run_within, answer_of, linked}
 use Rattle.link_spec.specs.Examples.{placed_from, root, of_one}
 use Rattle.link_spec.proofs.Holding.{all_both}
-use Rattle.link_spec.proofs.Samples.{u32_flat, u32_holds_no_list}
+use Rattle.link_spec.proofs.Samples.{u32_flat, u32_holds_no_list, u32_holds_no_borrow}
 use Rattle.graph_laws.specs.Laws.{IsSoundModule}
 use Rattle.graph_laws.specs.Examples.{of_caller, making, exporting, child, begins, lowering, calling, lifting, parent, gives_u32, func_at, both, ModulesAreSound}
 use Rattle.graph_laws.proofs.ModulesRead.{ItemHas, PlacedHave, module_has, nested_has, core_instance_has, instance_has, alias_has, type_has, canon_has, export_has, placed_have}
@@ -38,7 +38,7 @@ func_rolled : (type : FuncType) (levels : List Level) → meaning_of (plain_type
 func_rolled type levels =
     ap (λ t. meaning_of t levels) (sym (rolls-Func type)) ∙ ap (λ (f : InLevels). f levels) (fold-roll-DefType InLevels (List Level → Declared → Declared) type_step decl_step (DefType-F.Func type))
 
-ruleset layers = (outs-CoreModule, outs-CoreInstance, outs-Canon, outs-U32, outs-Alias, outs-Export, outs-Type, outs-Instance, outs-Component, outs-Func, func_rolled, u32_flat, u32_holds_no_list)
+ruleset layers = (outs-CoreModule, outs-CoreInstance, outs-Canon, outs-U32, outs-Alias, outs-Export, outs-Type, outs-Instance, outs-Component, outs-Func, func_rolled, u32_flat, u32_holds_no_list, u32_holds_no_borrow)
 
 ok_same : {A E : Type 0} (x y : A) → ◌≡◌ {A = Result A E} (Ok x) (Ok y) → x ≡ y
 ok_same x y h = cc

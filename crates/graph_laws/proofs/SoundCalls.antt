@@ -1,7 +1,9 @@
--- A call of an export whose parameters have counted types passes values of these types. So a script of such calls is sound.
-use Rattle.std.proofs.Common.{◌≡◌, ◌∙◌, ℕ, suc, zero, true, List, [], ◌∷◌, map, Option, Some, None, refl, ap, sym, subst}
-use Rattle.std.specs.List.{slice_get, AllByRecursion, AllZip}
+-- A call of an export whose parameters have counted types passes values of these types. So a script of such calls alone is sound.
+use Rattle.std.proofs.Common.{◌≡◌, ◌∙◌, ◌+◌, ℕ, suc, zero, true, false, List, [], ◌∷◌, length, map, Option, Some, None, refl, ap, sym, subst}
+use Rattle.std.specs.Prelude.{◌==◌}
+use Rattle.std.specs.List.{slice_get, AllByRecursion, AllZip, list_all}
 use Rattle.std.specs.Option.{option_and_then}
+use Rattle.std.proofs.lemmas.Bool.{and_parts}
 use Rattle.ca_base.specs.Names.{first_named}
 use Rattle.ca_base.proofs.FirstNamed.{found_by_name}
 use Rattle.ca_types.specs.declared.types.Param.{Param}
@@ -15,13 +17,14 @@ use Rattle.comp_graph.specs.Graph.{Graph, Lifted, lifted_as, func_named, names, 
 use Rattle.script_reader.specs.declared.script.Call.{Call}
 use Rattle.script_reader.specs.declared.script.Item.{Item}
 use Rattle.script_reader.specs.declared.script.Item.TheVariants as item
-use Rattle.script_reader.specs.Script.{export_named, CallsExport, AreOfTypes}
+use Rattle.script_reader.specs.Script.{export_named, CallsExport, AreItems, AreOfTypes}
 use Rattle.link_spec.proofs.Holding.{all_at, holds_at}
 use Rattle.canonical_machine.specs.Values.{IsOf, EachIs, no_types, more_types, tuple_is}
 use Rattle.canonical_machine.proofs.Fitted.{fitting_values_are}
 use Rattle.canonical_machine.specs.Passing.{params_type}
 use Rattle.canonical_machine.specs.Sound.{IsSoundGraph, IsSoundCall, IsSoundItem}
 use Rattle.graph_laws.specs.Counted.{is_counted, HasCountedTypes, HasCountedFuncs}
+use Rattle.graph_laws.specs.Scripts.{is_call}
 use Rattle.graph_laws.specs.Laws.{CallsAreSound}
 use Rattle.graph_laws.proofs.Counting.{in_range}
 
@@ -67,7 +70,7 @@ each_is (p ∷ params) [] c h = absurd h
 each_is (p ∷ params) (v ∷ values) c h =
     more_types p.val_type (map (λ (p : Param). p.val_type) params) v values (fitting_values_are p.val_type v (in_range v p.val_type c.0 h.0 h.1) h.0) (each_is params values c.1 h.2)
 
-call_sound : (g : Graph) (call : Call) → IsSoundGraph g → HasCountedFuncs g → CallsExport g.exports (item.Call call) → IsSoundCall g call
+call_sound : (g : Graph) (call : Call) → IsSoundGraph g → HasCountedFuncs g → CallsExport g.exports call → IsSoundCall g call
 call_sound g call sound counted h =
     let f = has_function g call.name h.0 sound h.1 in
     let c : HasCountedTypes h.0.func_type = holds_at (λ (e : Export). HasCountedTypes e.func_type) (slice_get g.exports f.number) h.0 (all_at (λ (e : Export). HasCountedTypes e.func_type) g.exports f.number counted.exports) f.there in
@@ -78,10 +81,17 @@ call_sound g call sound counted h =
           (tuple_is (map (λ (p : Param). p.val_type) h.0.func_type.params) call.values (each_is h.0.func_type.params call.values c.params h.2));
     }
 
-items_sound : (g : Graph) (items : List Item) → IsSoundGraph g → HasCountedFuncs g → AllByRecursion (CallsExport g.exports) items → AllByRecursion (IsSoundItem g) items
-items_sound g [] sound counted h = tt
-items_sound g (item.Cancel call ∷ items) sound counted h = absurd h.0
-items_sound g (item.Call call ∷ items) sound counted h = (call_sound g call sound counted h.0, items_sound g items sound counted h.1)
+not_call : false ≡ true → ⊥
+not_call h = cc
+
+items_sound : (g : Graph) (calls : ℕ) (items : List Item) → IsSoundGraph g → HasCountedFuncs g → AreItems g.exports calls items → list_all is_call items ≡ true
+    → AllByRecursion (IsSoundItem g) items
+items_sound g calls [] sound counted h only = tt
+items_sound g calls (item.Cancel number ∷ items) sound counted h only =
+    absurd (not_call (and_parts (is_call (item.Cancel number)) (list_all is_call items) only).0)
+items_sound g calls (item.Call call ∷ items) sound counted h only =
+    (call_sound g call sound counted h.0, items_sound g (calls + 1) items sound counted h.1 (and_parts (is_call (item.Call call)) (list_all is_call items) only).1)
 
 pub calls_are_sound : CallsAreSound
-calls_are_sound g s sound counted h = record { graph = sound; items = items_sound g s.items sound counted h }
+calls_are_sound g s sound counted h only =
+    record { graph = sound; items = items_sound g 0 s.items sound counted h (and_parts (list_all is_call s.items) (length s.picks == 0) only).0 }

@@ -1,7 +1,7 @@
 -- Types whose values functions pass, as they are read and linked (Component Model, Explainer.md, "Type Definitions"; Binary.md,
--- `defvaltype`): they hold no handle, flags have at most 32 labels, and the cases of a variant and the labels of an enum are counted by
--- 32 bits, also in what passes in a stream or a future. Where a function passes no end of a stream or a future, that is so of all that
--- it passes, and there is no end in it.
+-- `defvaltype`): flags have at most 32 labels, and the cases of a variant and the labels of an enum are counted by 32 bits, also in what
+-- passes in a stream or a future. Where a function passes no handle and no end of a stream or a future, that is so of all that it passes,
+-- and there is none in it.
 use Rattle.std.specs.Prelude.{◌≡◌, ◌^◌, ◌&&◌, nat_lt, nat_le, Bool, true, false, length}
 use Rattle.std.specs.List.{AllByRecursion}
 use Rattle.std.specs.Option.{IfSome}
@@ -50,7 +50,7 @@ pub record HasCountedFuncs (g : Graph) : Type 0 where
   pub exports : AllByRecursion (λ (e : Export). HasCountedTypes e.func_type) g.exports
   pub canons : AllByRecursion (λ (f : CanonFunc). HasCountedTypes (called_type f)) g.canons
 
--- The same of types that may hold ends: what passes in a stream or a future is so, too.
+-- The same of types that may hold handles and ends: what passes in a stream or a future is so, too.
 abbrev pub labelled_step : ValType-F Bool Bool Bool → Bool
 labelled_step (ValType-F.Record fields) = all_true fields
 labelled_step (ValType-F.Variant cases) = nat_lt (length cases) (2 ^ 32) && all_true cases
@@ -60,8 +60,8 @@ labelled_step (ValType-F.Flags labels) = nat_le (length labels) 32
 labelled_step (ValType-F.Enum labels) = nat_lt (length labels) (2 ^ 32)
 labelled_step (ValType-F.Option part) = part
 labelled_step (ValType-F.Result ok err) = true_if_some ok && true_if_some err
-labelled_step (ValType-F.Own resource) = false
-labelled_step (ValType-F.Borrow resource) = false
+labelled_step (ValType-F.Own resource) = true
+labelled_step (ValType-F.Borrow resource) = true
 labelled_step (ValType-F.Stream element) = true_if_some element
 labelled_step (ValType-F.Future element) = true_if_some element
 labelled_step _ = true

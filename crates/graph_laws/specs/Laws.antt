@@ -1,7 +1,6 @@
 -- What the graph of a component has, where it is linked (Component Model, Explainer.md, "Instance Definitions" and "Canonical
 -- Definitions"), and what its modules have, where it was read before (Binary.md, "Core Definitions"; Core 2.0, section 5.5).
-use Rattle.std.specs.Prelude.{◌≡◌, ℕ, true, false, List, IsSome}
-use Rattle.std.specs.List.{AllByRecursion}
+use Rattle.std.specs.Prelude.{◌≡◌, ℕ, true, List}
 use Rattle.wasm_module.specs.declared.module.ModuleTree.{ModuleTree}
 use Rattle.wasm_typing.specs.Modules.{Typed}
 use Rattle.wasm_store.specs.Instantiation.{InRange}
@@ -9,15 +8,15 @@ use Rattle.comp_tree.specs.declared.items.Component.{Component}
 use Rattle.comp_reader.specs.Binary.{IsComponent}
 use Rattle.comp_graph.specs.Graph.{Graph}
 use Rattle.comp_graph.specs.Running.{runs_now}
-use Rattle.sync_items.specs.Graphs.{passes_no_ends, runs_synchronously}
-use Rattle.sync_items.specs.Items.{first_not_sync}
-use Rattle.script_reader.specs.Script.{Script, CallsExport}
+use Rattle.sync_items.specs.Graphs.{is_plain}
+use Rattle.script_reader.specs.Script.{Script, AreItems}
 use Rattle.link_spec.specs.Standing.{StandsIn}
 use Rattle.link_spec.specs.Linked.{IsLinked}
 use Rattle.canonical_machine.specs.Sound.{AreBytes, HasBytes, Makes, IsSoundGraph, IsSound}
 use Rattle.canonical_machine.specs.Owners.{IsApart}
 use Rattle.canonical_machine.specs.Plain.{IsPlain}
 use Rattle.graph_laws.specs.Counted.{HasCountedFuncs, HasLabelledFuncs}
+use Rattle.graph_laws.specs.Scripts.{only_calls}
 
 -- A module that is valid, no memory of which begins with more pages than any may have, and whose data are bytes.
 pub record IsSoundModule (m : ModuleTree) : Type 0 where
@@ -59,7 +58,7 @@ ReadGraphsAreSound =
     → AreBytes bytes → IsComponent bytes c → IsLinked c g → runs_now g ≡ true → IsSoundGraph g
 
 -- What functions of a graph pass that is read of bytes and linked has types whose labels are counted, also in what passes in streams and
--- futures, and which hold no handle. Where no function passes the end of a stream or a future, they hold no end either.
+-- futures. Where no function passes a handle or the end of a stream or a future, they hold none.
 abbrev pub ReadTypesAreLabelled : Type 0
 ReadTypesAreLabelled =
     (bytes : List ℕ) (c : Component) (g : Graph)
@@ -68,18 +67,14 @@ ReadTypesAreLabelled =
 abbrev pub ReadTypesAreCounted : Type 0
 ReadTypesAreCounted =
     (bytes : List ℕ) (c : Component) (g : Graph)
-    → AreBytes bytes → IsComponent bytes c → IsLinked c g → passes_no_ends g ≡ true → HasCountedFuncs g
+    → AreBytes bytes → IsComponent bytes c → IsLinked c g → is_plain g ≡ true → HasCountedFuncs g
 
 -- Such a graph passes no handle and no end.
 abbrev pub CountedGraphsArePlain : Type 0
 CountedGraphsArePlain = (g : Graph) → HasCountedFuncs g → IsPlain g
 
--- A script whose items call exports of such a graph, which is sound, is sound.
+-- A script that makes calls alone, of exports of such a graph, which is sound, is sound.
 abbrev pub CallsAreSound : Type 0
 CallsAreSound =
     (g : Graph) (s : Script)
-    → IsSoundGraph g → HasCountedFuncs g → AllByRecursion (CallsExport g.exports) s.items → IsSound g s
-
--- A component whose graph has more than synchronous functions that pass no end has a first item that is more.
-abbrev pub OtherItemsAreFound : Type 0
-OtherItemsAreFound = (c : Component) (g : Graph) → IsLinked c g → runs_synchronously g ≡ false → IsSome (first_not_sync c)
+    → IsSoundGraph g → HasCountedFuncs g → AreItems g.exports 0 s.items → only_calls s ≡ true → IsSound g s

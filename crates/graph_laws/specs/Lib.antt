@@ -1,3 +1,4 @@
 pub mod Counted
+pub mod Scripts
 pub mod Laws
 pub mod Examples

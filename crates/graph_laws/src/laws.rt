@@ -1,7 +1,7 @@
 //! What holds of every linked graph, and of the modules that are read.
 
 ghost use Rattle.canonical_machine.specs.Sound.{AreBytes};
-ghost use Rattle.graph_laws.specs.Laws.{LinkedGraphsAreSound, PlansMakeInOrder, LinkedGraphsAreApart, ReadModulesAreTyped, ReadDataAreBytes, ReadModulesAreSound, ReadGraphsAreSound, ReadTypesAreLabelled, ReadTypesAreCounted, CountedGraphsArePlain, CallsAreSound, OtherItemsAreFound};
+ghost use Rattle.graph_laws.specs.Laws.{LinkedGraphsAreSound, PlansMakeInOrder, LinkedGraphsAreApart, ReadModulesAreTyped, ReadDataAreBytes, ReadModulesAreSound, ReadGraphsAreSound, ReadTypesAreLabelled, ReadTypesAreCounted, CountedGraphsArePlain, CallsAreSound};
 
 use link_spec::laws::graphs_are_sound;
 
@@ -45,13 +45,14 @@ pub fn files_are_bytes(file: &[u8])
 {}
 
 /// The types of what functions of a component pass that is read of bytes and linked have counted labels, also in what passes in streams
-/// and futures: flags at most 32, and a variant and an enum fewer than 2^32. They hold no handle.
+/// and futures: flags at most 32, and a variant and an enum fewer than 2^32.
 pub fn read_types_are_labelled()
     ensures { ReadTypesAreLabelled }
 {}
 
 /// The types of what functions of a component pass that is read of bytes and linked have counted labels, where none of its functions
-/// passes the end of a stream or a future: flags at most 32, and a variant and an enum fewer than 2^32. They hold no handle and no end.
+/// passes a handle or the end of a stream or a future: flags at most 32, and a variant and an enum fewer than 2^32. They hold no handle
+/// and no end.
 pub fn read_types_are_counted()
     ensures { ReadTypesAreCounted }
 {}
@@ -61,15 +62,8 @@ pub fn counted_graphs_are_plain()
     ensures { CountedGraphsArePlain }
 {}
 
-/// A script whose items call exports of a sound graph is sound, where its functions pass values of types whose labels are counted:
-/// what such a call passes is of its type.
+/// A script that makes calls alone, of exports of a sound graph, is sound, where its functions pass values of types whose labels are
+/// counted: what such a call passes is of its type.
 pub fn calls_are_sound()
     ensures { CallsAreSound }
-{}
-
-/// A component whose graph has more than synchronous functions that pass no end has a first item that is a built-in, a lift or a lower
-/// with `async` or `callback`, a type in which a type of streams, futures, handles or resources stands, or an import or an export that is
-/// asked to be a type of resources.
-pub fn other_items_are_found()
-    ensures { OtherItemsAreFound }
 {}

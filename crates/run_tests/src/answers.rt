@@ -3,36 +3,47 @@
 //! A component, its graph, a script and a run are each lent to the function that tells of them as the last step, so that they are
 //! let go in one place.
 
-ghost use Rattle.std.specs.Prelude.{◌≡◌, ℕ, true, List, IfOk};
+ghost use Rattle.std.specs.Prelude.{ℕ, List, IfOk};
 ghost use Rattle.comp_tree.specs.declared.items.Component.{Component};
 ghost use Rattle.comp_reader.specs.Binary.{IsComponent};
-ghost use Rattle.sync_items.specs.Graphs.{runs_synchronously};
+ghost use Rattle.script_reader.specs.Script.{AreItems};
 ghost use Rattle.link_spec.specs.Linked.{IsLinked};
 ghost use Rattle.canonical_machine.specs.Sound.{AreBytes, IsSound};
 ghost use Rattle.canonical_machine.specs.Owners.{IsApart};
 ghost use Rattle.canonical_machine.specs.Plain.{IsPlain};
+ghost use Rattle.machine_runs.specs.Fit.{ModulesFit};
 
 use crate::case::{Case, Command, case_of};
 use answer_texts::{
     accepted_text, graph_text, link_refused_line, refused_line, script_refused_line,
 };
 use builtins::{Run, run_script, trace_text};
-use ca_base::{Bytes, MemoryOr, ReadError};
+use ca_base::{Bytes, MemoryOr, ReadError, Seq};
+use ca_io::MemSink;
 use canonical_machine::RunEnd;
 use cases::Answers;
 use comp_graph::Graph;
-use comp_link::{LinkFault, LinkWhy, link};
+use comp_link::{LinkFault, link};
 use comp_reader::{Component, ComponentWhy, read_component};
 use graph_laws::laws::{
     calls_are_sound, counted_graphs_are_plain, files_are_bytes, linked_graphs_are_apart,
-    read_graphs_are_sound, read_types_are_counted,
+    read_graphs_are_sound, read_modules_are_typed, read_types_are_counted,
 };
+use graph_laws::only_calls;
+use link_spec::laws::graphs_are_sound;
+use machine_runs::{Ran as RanOn, RunEnd as KeptEnd, run_script as run_on, runs_step_on};
+use program_maker::program_of;
 use script_reader::{Script, ScriptFault, read_script};
 use std::alloc::Global;
 use std::fmt::Write;
 use std::test::Fail;
-use sync_items::{first_not_sync, runs_synchronously};
+use sync_items::runs_synchronously;
+use trace_show::Trace;
+use value_moves::{ValueMoves, passes_stay_fit};
 use world::dump_text;
+
+/// How many bytes the trace of a case may have.
+const ROOM: usize = 1024 * 1024;
 
 /// Cases, each with its answer.
 pub struct Ran;
@@ -51,6 +62,16 @@ fn status_of(end: &RunEnd) -> u8 {
         RunEnd::Trapped { .. } => 1,
         RunEnd::Deadlock { .. } => 5,
         RunEnd::Fuel => 6,
+    }
+}
+
+/// The same of a run by the machine of asynchronous calls.
+fn status_of_run(end: KeptEnd) -> u8 {
+    match end {
+        KeptEnd::Done => 0,
+        KeptEnd::Trap => 1,
+        KeptEnd::Deadlock => 5,
+        KeptEnd::Fuel => 6,
     }
 }
 
@@ -77,7 +98,7 @@ fn run_told(alloc: Global, run: &Run, dump: bool) -> Result<String, Fail> {
     answer(alloc, status_of(&run.end), &text)
 }
 
-/// What the run of a script over a graph comes to.
+/// What the run of a script over a graph comes to by the machine of synchronous calls.
 fn script_run(alloc: Global, graph: &Graph, script: &Script, dump: bool) -> Result<String, Fail>
     requires sound { IsSound graph.now script.now }
     requires apart { IsApart graph.now }
@@ -93,7 +114,59 @@ fn script_refused(alloc: Global, fault: ScriptFault) -> Result<String, Fail> {
     answer(alloc, 4, &line)
 }
 
-/// What a script comes to for the graph of a component that is read of bytes, of synchronous functions alone that pass no end.
+/// What a run by the machine of asynchronous calls comes to, of which this was written.
+fn run_on_told(alloc: Global, ran: RanOn, trace: &[u8]) -> Result<String, Fail> {
+    let RanOn { end, dump } = ran;
+    let mut text = Seq::from_vec(trace.to_vec(alloc)?);
+    if let Some(dump) = dump {
+        text.append(dump)?;
+    }
+    answer(alloc, status_of_run(end), &text)
+}
+
+/// What the run of a script over a graph comes to by the machine of asynchronous calls.
+fn script_run_on(alloc: Global, graph: &Graph, script: &Script, dump: bool) -> Result<String, Fail>
+    requires fit { ModulesFit graph.now }
+{
+    let program = program_of(alloc, graph, script)?;
+    passes_stay_fit(&program);
+    runs_step_on::<ValueMoves>(&program);
+    let mut sink = MemSink::new(alloc, ROOM, ROOM, &[])?;
+    let mut kept = Vec::new(alloc);
+    let mut trace = Trace::new(&mut sink, &mut kept);
+    match run_on::<ValueMoves, MemSink>(alloc, &program, &mut trace, dump) {
+        Ok(ran) => run_on_told(alloc, ran, sink.taken()),
+        Err(_) => Err(Fail::new("no run")),
+    }
+}
+
+/// What the run of a script that is read comes to for the graph of a component that is read of bytes.
+fn machine_run(
+    alloc: Global,
+    component: &Component,
+    graph: &Graph,
+    script: &Script,
+    dump: bool,
+) -> Result<String, Fail>
+    requires read { (bytes : List ℕ) × AreBytes bytes × IsComponent bytes component.now }
+    requires linked { IsLinked component.now graph.now }
+    requires items { AreItems graph.now.exports 0 script.now.items }
+{
+    read_graphs_are_sound();
+    read_types_are_counted();
+    calls_are_sound();
+    linked_graphs_are_apart();
+    counted_graphs_are_plain();
+    graphs_are_sound();
+    read_modules_are_typed();
+    if runs_synchronously(graph) && only_calls(script) {
+        script_run(alloc, graph, script, dump)
+    } else {
+        script_run_on(alloc, graph, script, dump)
+    }
+}
+
+/// What a script comes to for the graph of a component that is read of bytes.
 fn scripted(
     alloc: Global,
     component: &Component,
@@ -103,25 +176,12 @@ fn scripted(
 ) -> Result<String, Fail>
     requires read { (bytes : List ℕ) × AreBytes bytes × IsComponent bytes component.now }
     requires linked { IsLinked component.now graph.now }
-    requires runs { runs_synchronously graph.now ≡ true }
 {
-    read_graphs_are_sound();
-    read_types_are_counted();
-    calls_are_sound();
-    linked_graphs_are_apart();
-    counted_graphs_are_plain();
     match read_script(alloc, script.as_bytes(), graph.exports()) {
-        Ok(script) => script_run(alloc, graph, &script, dump),
+        Ok(script) => machine_run(alloc, component, graph, &script, dump),
         Err(MemoryOr::Fault(fault)) => script_refused(alloc, fault),
         Err(MemoryOr::Memory) => Err(Fail::new("memory")),
     }
-}
-
-/// The answer for a component whose graph has more than synchronous functions that pass no end.
-fn not_run(alloc: Global, component: &Component) -> Result<String, Fail> {
-    let place = first_not_sync(component).ok_or("no such item")?;
-    let why = LinkWhy::Limit;
-    link_refused(alloc, &LinkFault { place, why })
 }
 
 /// The answer of a command for the graph of a component that is read of bytes.
@@ -135,13 +195,7 @@ fn graph_answer(
     requires linked { IsLinked component.now graph.now }
 {
     match case.command {
-        Command::Run { dump } => {
-            if runs_synchronously(graph) {
-                scripted(alloc, component, graph, case.script.as_str(), dump)
-            } else {
-                not_run(alloc, component)
-            }
-        }
+        Command::Run { dump } => scripted(alloc, component, graph, case.script.as_str(), dump),
         Command::Check => answer(alloc, 0, &accepted_text(alloc)?),
         Command::Show => answer(alloc, 0, &graph_text(alloc, graph)?),
     }

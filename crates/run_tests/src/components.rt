@@ -1,6 +1,6 @@
 //! The components of cases.
 
-use cases::bytes_of;
+use cases::{bytes_of, bytes_of_lines};
 use std::alloc::{AllocError, Global};
 use std::test::Fail;
 
@@ -12,9 +12,9 @@ const ADD: &str = "
 64 01 00 00
 ";
 
-/// Adds the bytes of hexadecimal text.
+/// Adds the bytes of hexadecimal text. What stands behind a `;` is left out.
 fn add_code(alloc: Global, code: &str, bytes: &mut Vec<u8>) -> Result<(), Fail> {
-    let part = bytes_of(alloc, code)?;
+    let part = bytes_of_lines(alloc, code)?;
     bytes.extend_from_slice(&part)?;
     Ok(())
 }

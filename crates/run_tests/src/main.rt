@@ -7,9 +7,9 @@
 //! command, lines of a script, a line `is`, and the answer. It is answered over the same readers, the same linking and the same
 //! runs as `wcm` stands on, without a file.
 //!
-//! - A line of a component is bytes in hexadecimal, which stand behind those of the lines before; `add`, the component `ADD`;
-//!   `times N BYTES`, bytes that stand N times; `front N`, by which no more than N bytes are left; or `change N BYTE`, another
-//!   byte at the place N
+//! - A line of a component is bytes in hexadecimal, which stand behind those of the lines before, with a remark behind a `;`;
+//!   `add`, the component `ADD`; `times N BYTES`, bytes that stand N times; `front N`, by which no more than N bytes are left; or
+//!   `change N BYTE`, another byte at the place N
 //! - A command is `run`, `run --dump`, `check` or `show`
 //! - Each line of a script has a line feed behind it, but a line with a `\` at its end, which is left out with the line feed
 //! - An answer is a line with the number of the status, and the text that belongs to it: the trace, and behind it the dump where
@@ -25,9 +25,15 @@
 //! - `labels`: types and values with labels
 //! - `dumps`: what runs leave
 //! - `shown`: what `check` and `show` tell
-//! - `async`: built-ins, and lifts and lowers with `async`: what is linked, and which item keeps a component from being run
+//! - `async`: built-ins, and lifts and lowers with `async`: what is linked, and that it runs
 //! - `streams`: the same of types of streams and futures
 //! - `resources`: the same of types of resources and handles
+//! - `callbacks`: functions that are lifted with a callback: it yields, waits and polls
+//! - `waits`: waitable sets, and subtasks that are members of them
+//! - `resolving`: how calls go on, and how tasks resolve
+//! - `leaving`: what a task may do behind its result, while arguments are lowered, and before all is instantiated
+//! - `turns`: fuel, choices, and which task enters or goes on
+//! - `lifted_builtins`: built-ins that are lifted, or are post-returns
 //!
 //! In the table `lines` of the kind `line` a paragraph is a line that says what is refused, `component`, `link` or `script`, and
 //! lines of a place and a reason, each with its line of a refusal behind ` = `. Behind a reason stands its argument: a byte as a

@@ -80,6 +80,7 @@ pub fn script_why(name: &str) -> Result<ScriptWhy, Fail> {
         "Utf8" => ScriptWhy::Utf8,
         "Form" => ScriptWhy::Form,
         "Fuel" => ScriptWhy::Fuel,
+        "CallNumber" => ScriptWhy::CallNumber,
         "Export" => ScriptWhy::Export,
         "HostType" => ScriptWhy::HostType,
         "Value" => ScriptWhy::Value,

@@ -1,2 +1,1 @@
-mod Folded
 mod Tested

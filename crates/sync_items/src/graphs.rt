@@ -1,32 +1,38 @@
-//! Which graphs run: those of synchronous functions that pass no end.
+//! Which graphs run: those of synchronous functions that pass no handle and no end.
 
 ghost use Rattle.std.specs.Prelude.{◌≡◌, ◌<◌, length, Some};
 ghost use Rattle.std.specs.List.{slice_get, list_all};
 ghost use Rattle.ca_types.specs.declared.exports.Export.{Export};
 ghost use Rattle.ca_types.specs.declared.types.FuncType.{FuncType};
 ghost use Rattle.comp_graph.specs.declared.graph.CanonFunc as canon;
-ghost use Rattle.ca_types.specs.Ends.{held_end};
 ghost use Rattle.comp_graph.specs.Passed.{ArePassed};
 ghost use Rattle.sync_items.specs.Graphs as sync;
 
 use comp_graph::{CanonFunc, Graph, PassedTypes, runs_now};
 use laid_types::LaidType;
 
-/// Whether what a function gives holds an end, if it gives something.
-fn gives_end(returned: &Option<LaidType<'_>>) -> bool
-    ensures { result ≡ held_end returned.now }
+/// Whether values of a type hold an end or a handle.
+fn holds_any(val_type: &LaidType<'_>) -> bool
+    ensures { result ≡ sync.holds_any val_type.now }
+{
+    val_type.has_end() || val_type.has_handle()
+}
+
+/// Whether what a function gives holds one, if it gives something.
+fn gives_any(returned: &Option<LaidType<'_>>) -> bool
+    ensures { result ≡ sync.held_any returned.now }
 {
     match returned {
-        Some(val_type) => val_type.has_end(),
+        Some(val_type) => holds_any(val_type),
         None => false,
     }
 }
 
-/// Whether functions that pass values of these types pass no end.
-fn passes_no_end(passed: &PassedTypes<'_>) -> bool
-    ensures { (f : FuncType) → ArePassed passed.now f → result ≡ sync.passes_no_end f }
+/// Whether functions that pass values of these types pass no end and no handle.
+fn passes_none(passed: &PassedTypes<'_>) -> bool
+    ensures { (f : FuncType) → ArePassed passed.now f → result ≡ sync.passes_none f }
 {
-    !passed.params.has_end() && !gives_end(&passed.returned)
+    !holds_any(&passed.params) && !gives_any(&passed.returned)
 }
 
 /// The core function of a number that is there.
@@ -52,30 +58,30 @@ fn canon_count(graph: &Graph<'_>) -> usize
 }
 
 /// Whether the export of a number passes none.
-fn is_endless(graph: &Graph<'_>, number: usize) -> bool
+fn export_passes_none(graph: &Graph<'_>, number: usize) -> bool
     requires { number < length graph.now.exports }
-    ensures { (e : Export) → slice_get graph.now.exports number ≡ Some e → result ≡ sync.is_endless e }
+    ensures { (e : Export) → slice_get graph.now.exports number ≡ Some e → result ≡ sync.export_passes_none e }
 {
-    passes_no_end(&graph.export_types(number))
+    passes_none(&graph.export_types(number))
 }
 
 /// Whether the core function of a number, of those that the Canonical ABI makes, calls no function that passes one.
-fn calls_endless(graph: &Graph<'_>, number: usize) -> bool
+fn call_passes_none(graph: &Graph<'_>, number: usize) -> bool
     requires { number < length graph.now.canons }
-    ensures { (f : canon.CanonFunc) → slice_get graph.now.canons number ≡ Some f → result ≡ sync.calls_endless f }
+    ensures { (f : canon.CanonFunc) → slice_get graph.now.canons number ≡ Some f → result ≡ sync.call_passes_none f }
 {
     match canon_at(graph.canons(), number) {
-        CanonFunc::Lower(_) => passes_no_end(&graph.canon_types(number)),
+        CanonFunc::Lower(_) => passes_none(&graph.canon_types(number)),
         CanonFunc::Builtin(_) => true,
     }
 }
 
 /// Whether no export of a graph passes one.
-fn are_endless(graph: &Graph<'_>) -> bool
-    ensures { result ≡ list_all sync.is_endless graph.now.exports }
+fn exports_pass_none(graph: &Graph<'_>) -> bool
+    ensures { result ≡ list_all sync.export_passes_none graph.now.exports }
 {
     for number in 0..export_count(graph) {
-        if !is_endless(graph, number) {
+        if !export_passes_none(graph, number) {
             return false;
         }
     }
@@ -83,11 +89,11 @@ fn are_endless(graph: &Graph<'_>) -> bool
 }
 
 /// Whether no core function of a graph, of those that the Canonical ABI makes, calls a function that passes one.
-fn all_call_endless(graph: &Graph<'_>) -> bool
-    ensures { result ≡ list_all sync.calls_endless graph.now.canons }
+fn calls_pass_none(graph: &Graph<'_>) -> bool
+    ensures { result ≡ list_all sync.call_passes_none graph.now.canons }
 {
     for number in 0..canon_count(graph) {
-        if !calls_endless(graph, number) {
+        if !call_passes_none(graph, number) {
             return false;
         }
     }
@@ -95,10 +101,10 @@ fn all_call_endless(graph: &Graph<'_>) -> bool
 }
 
 /// Whether all functions of a graph are synchronous, no core function is a built-in, no type of resources is defined, and no function
-/// passes the end of a stream or a future (Component Model, CanonicalABI.md, `canon lift` and `canon lower`). Its cost is that of the
-/// number of functions, however deep their types are.
+/// passes a handle or the end of a stream or a future (Component Model, CanonicalABI.md, `canon lift` and `canon lower`). Its cost is
+/// that of the number of functions, however deep their types are.
 pub fn runs_synchronously(graph: &Graph<'_>) -> bool
     ensures { result ≡ sync.runs_synchronously graph.now }
 {
-    runs_now(graph) && (are_endless(graph) && all_call_endless(graph))
+    runs_now(graph) && (exports_pass_none(graph) && calls_pass_none(graph))
 }

@@ -4,5 +4,6 @@ pub mod Found
 pub mod Held
 pub mod Reading
 pub mod Rows
+pub mod RunsOn
 pub mod Sounds
 pub mod Taken

@@ -13,12 +13,10 @@ use Rattle.script_reader.specs.Script.{size_limit, IsScriptRefused}
 use Rattle.link_spec.specs.declared.fault.LinkFault.{LinkFault}
 use Rattle.link_spec.specs.Linked.{IsLinked, IsLinkRefused}
 use Rattle.comp_graph.specs.Graph.{Graph}
-use Rattle.sync_items.specs.Graphs.{runs_synchronously}
-use Rattle.sync_items.specs.Items.{first_not_sync}
 use Rattle.command_words.specs.Words.{Command, Run, Check, Show, component_file}
 use Rattle.wcm.specs.declared.answer.Answer.{Answer}
 use Rattle.wcm.specs.Files.{component_limit, too_long, IsFileRead, IsFileRefused, IsFileLinked, IsScriptFileRefused}
-use Rattle.wcm.specs.Answers.{Answers, file_refused, not_linked, accepted, shown, not_run, script_refused, refused_answer, link_refused_answer, not_run_answer, accepted_answer, shown_answer, script_refused_answer}
+use Rattle.wcm.specs.Answers.{Answers, file_refused, not_linked, accepted, shown, script_refused, refused_answer, link_refused_answer, accepted_answer, shown_answer, script_refused_answer}
 use Rattle.wcm.proofs.Held.{too_many}
 
 -- A file that is too long.
@@ -74,13 +72,7 @@ shown_row held command file g a same linked e =
     let row : Answers held (Some (Show file)) (shown_answer g) = shown file g (subst (λ (c : Command). IsFileLinked held (component_file c) g) same linked) in
     subst (λ (b : Answer). Answers held (Some command) b) (sym e) (subst (λ (c : Command). Answers held (Some c) (shown_answer g)) (sym same) row)
 
-pub script_refused_row : (held : List ℕ → Option (List ℕ)) (file name : List ℕ) (dump : Bool) (g : Graph) (exports : List Export) (fault : ScriptFault) (a : Answer) → IsFileLinked held file g → runs_synchronously g ≡ true → exports ≡ g.exports → IsScriptFileRefused held name exports fault → a ≡ script_refused_answer fault → Answers held (Some (Run file name dump)) a
-script_refused_row held file name dump g exports fault a linked runs same s e =
+pub script_refused_row : (held : List ℕ → Option (List ℕ)) (file name : List ℕ) (dump : Bool) (g : Graph) (exports : List Export) (fault : ScriptFault) (a : Answer) → IsFileLinked held file g → exports ≡ g.exports → IsScriptFileRefused held name exports fault → a ≡ script_refused_answer fault → Answers held (Some (Run file name dump)) a
+script_refused_row held file name dump g exports fault a linked same s e =
     subst (λ (b : Answer). Answers held (Some (Run file name dump)) b) (sym e)
-    (script_refused file name dump g fault linked runs (subst (λ (es : List Export). IsScriptFileRefused held name es fault) same s))
-
-pub not_run_row : (held : List ℕ → Option (List ℕ)) (file name : List ℕ) (dump : Bool) (c : Component) (g : Graph) (place : ℕ) (a : Answer) → IsFileRead held file c → IsLinked c g → runs_synchronously g ≡ false → first_not_sync c ≡ Some place
-    → a ≡ not_run_answer place → Answers held (Some (Run file name dump)) a
-not_run_row held file name dump c g place a f linked beyond first e =
-    subst (λ (b : Answer). Answers held (Some (Run file name dump)) b) (sym e)
-    (not_run file name dump place (record { bytes = f.bytes; component = c; graph = g; holds = f.holds; read = f.read; linked = linked; beyond = beyond; first = first }))
+    (script_refused file name dump g fault linked (subst (λ (es : List Export). IsScriptFileRefused held name es fault) same s))

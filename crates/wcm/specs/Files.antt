@@ -1,7 +1,7 @@
 -- What the files that a command names come to. A file holds what is told of it; where nothing is told of it, it may hold anything. The
--- component file is refused, or its component is not linked, or it is linked to a graph, and that is run or not. The script file is
--- refused, or it is a script for the functions that can be called.
-use Rattle.std.specs.Prelude.{◌≡◌, ◌<◌, ◌≤◌, ◌⊎◌, ℕ, true, false, List, length, Option, Some, IfSome, IsSome}
+-- component file is refused, or its component is not linked, or it is linked to a graph. The script file is refused, or it is a script
+-- for the functions that can be called.
+use Rattle.std.specs.Prelude.{◌≡◌, ◌<◌, ◌≤◌, ◌⊎◌, ℕ, true, List, length, Option, Some, IfSome, IsSome}
 use Rattle.ca_base.specs.declared.refusal.Refusal.{Refusal}
 use Rattle.ca_types.specs.declared.exports.Export.{Export}
 use Rattle.comp_tree.specs.declared.items.Component.{Component}
@@ -13,10 +13,9 @@ use Rattle.script_reader.specs.Script.{Script, IsScript, IsScriptRefused}
 use Rattle.link_spec.specs.declared.fault.LinkFault.{LinkFault}
 use Rattle.link_spec.specs.Linked.{IsLinked, IsLinkRefused}
 use Rattle.comp_graph.specs.Graph.{Graph}
-use Rattle.sync_items.specs.Graphs.{runs_synchronously}
-use Rattle.sync_items.specs.Items.{first_not_sync}
 use Rattle.canonical_machine.specs.Sound.{AreBytes}
 use Rattle.command_words.specs.Words.{Command, Run, Check, Show, component_file}
+use Rattle.wcm.specs.Machines.{is_synchronous}
 
 -- the file of this name may hold these bytes
 abbrev pub MayHold : (List ℕ → Option (List ℕ)) → List ℕ → List ℕ → Type 0
@@ -62,18 +61,6 @@ pub record IsFileLinked (held : List ℕ → Option (List ℕ)) (name : List ℕ
   pub read : IsComponentFile bytes component
   pub linked : IsLinked component g
 
--- The component file is of a component that is linked to a graph of more than synchronous functions that pass no end, and the first of
--- its items that is more stands at this place.
-pub record IsFileNotRun (held : List ℕ → Option (List ℕ)) (name : List ℕ) (place : ℕ) : Type 0 where
-  pub bytes : List ℕ
-  pub component : Component
-  pub graph : Graph
-  pub holds : MayHold held name bytes
-  pub read : IsComponentFile bytes component
-  pub linked : IsLinked component graph
-  pub beyond : runs_synchronously graph ≡ false
-  pub first : first_not_sync component ≡ Some place
-
 -- the script file is refused, where these functions can be called
 pub record IsScriptFileRefused (held : List ℕ → Option (List ℕ)) (name : List ℕ) (exports : List Export) (fault : ScriptFault) : Type 0 where
   pub text : List ℕ
@@ -86,20 +73,31 @@ pub record IsScriptFile (held : List ℕ → Option (List ℕ)) (name : List ℕ
   pub holds : MayHold held name text
   pub read : IsScript exports text script
 
--- what a command asks for behind a graph is told: `run` asks for the script file where the graph is run, `check` and `show` for nothing
-abbrev pub IsScriptTold : (List ℕ → Option (List ℕ)) → Command → Graph → Type 0
-IsScriptTold held (Run file script dump) g = runs_synchronously g ≡ true → IsSome (held script)
-IsScriptTold held (Check file) g = Unit {0}
-IsScriptTold held (Show file) g = Unit {0}
+-- What a command asks for behind a graph is told: `run` asks for the script file, `check` and `show` for nothing.
+abbrev pub IsScriptTold : (List ℕ → Option (List ℕ)) → Command → Type 0
+IsScriptTold held (Run file script dump) = IsSome (held script)
+IsScriptTold held (Check file) = Unit {0}
+IsScriptTold held (Show file) = Unit {0}
 
 -- the files that a command asks for are told: the component file, and what it asks for behind a graph where that file is linked to one
 pub record AreTold (held : List ℕ → Option (List ℕ)) (command : Command) : Type 0 where
   pub component : IsSome (held (component_file command))
-  pub script : (g : Graph) → IsFileLinked held (component_file command) g → IsScriptTold held command g
+  pub script : (g : Graph) → IsFileLinked held (component_file command) g → IsScriptTold held command
 
 -- the files that words ask for are told, if they are a command
 abbrev pub IsTold : (List ℕ → Option (List ℕ)) → Option Command → Type 0
 IsTold held command = IfSome command (AreTold held)
+
+-- what a command runs, it runs by the machine of synchronous calls
+abbrev pub RunsSynchronously : (List ℕ → Option (List ℕ)) → Command → Type 0
+RunsSynchronously held (Run file script dump) =
+    (g : Graph) (calls : Script) → IsFileLinked held file g → IsScriptFile held script g.exports calls → is_synchronous g calls ≡ true
+RunsSynchronously held (Check file) = Unit {0}
+RunsSynchronously held (Show file) = Unit {0}
+
+-- the same of words, if they are a command
+abbrev pub IsSynchronous : (List ℕ → Option (List ℕ)) → Option Command → Type 0
+IsSynchronous held command = IfSome command (RunsSynchronously held)
 
 -- the component file that words name is told, if they are a command
 abbrev pub IsComponentTold : (List ℕ → Option (List ℕ)) → Option Command → Type 0

@@ -2,6 +2,8 @@
 use Rattle.std.specs.Prelude.{ℕ}
 use Rattle.canonical_machine.specs.declared.run_end.RunEnd.{RunEnd}
 use Rattle.canonical_machine.specs.declared.run_end.RunEnd.TheVariants as ends
+use Rattle.machine_runs.specs.declared.ending.RunEnd as runs
+use Rattle.machine_runs.specs.declared.ending.RunEnd.TheVariants as run
 use Rattle.wcm.specs.declared.status.Status.{Status}
 use Rattle.wcm.specs.declared.status.Status.TheVariants.{Done, Trap, Usage, Refused, ScriptRefused, Deadlock, Fuel, ReadFault, WriteFault, Memory, LinkRefused}
 
@@ -24,19 +26,12 @@ status_of (ends.Trapped task why) = Trap
 status_of (ends.Deadlock tasks) = Deadlock
 status_of ends.Fuel = Fuel
 
--- a status that the program gives: no run ends with tasks that cannot go on
-abbrev pub IsGiven : Status → Type 0
-IsGiven Done = Unit {0}
-IsGiven Trap = Unit {0}
-IsGiven Usage = Unit {0}
-IsGiven Refused = Unit {0}
-IsGiven ScriptRefused = Unit {0}
-IsGiven Deadlock = ⊥
-IsGiven Fuel = Unit {0}
-IsGiven ReadFault = Unit {0}
-IsGiven WriteFault = Unit {0}
-IsGiven Memory = Unit {0}
-IsGiven LinkRefused = Unit {0}
+-- the same of the machine of asynchronous calls
+abbrev pub status_of_run : runs.RunEnd → Status
+status_of_run run.Done = Done
+status_of_run run.Trap = Trap
+status_of_run run.Deadlock = Deadlock
+status_of_run run.Fuel = Fuel
 
 -- the call went its way: no fault and no want of memory ended it
 abbrev pub IsFinal : Status → Type 0
@@ -59,7 +54,7 @@ IsAnswered Trap = Unit {0}
 IsAnswered Usage = ⊥
 IsAnswered Refused = Unit {0}
 IsAnswered ScriptRefused = Unit {0}
-IsAnswered Deadlock = ⊥
+IsAnswered Deadlock = Unit {0}
 IsAnswered Fuel = Unit {0}
 IsAnswered ReadFault = ⊥
 IsAnswered WriteFault = ⊥

@@ -1,24 +1,23 @@
 //! What a call of the program answers, from the files that it names.
 
 ghost use Rattle.std.specs.Prelude.{◌≡◌, ℕ, true, false, if◌then◌else◌, List, [], ◌++◌, Option, Some, IfOk, MatchResult, map, replicate};
-ghost use Rattle.std.specs.List.{AllByRecursion};
-ghost use Rattle.script_reader.specs.Script.{CallsExport};
-ghost use Rattle.sync_items.specs.Graphs.{runs_synchronously};
+ghost use Rattle.script_reader.specs.Script.{AreItems};
 ghost use Rattle.link_spec.specs.Linked.{IsLinked};
-ghost use Rattle.sync_items.specs.Items.{first_not_sync};
 ghost use Rattle.trace_show.specs.LabelText.{trace_text};
 ghost use Rattle.trace_show.specs.DumpText.{dump_text};
 ghost use Rattle.canonical_machine.specs.Run.{trace_of};
 ghost use Rattle.canonical_machine.specs.Sound.{IsSound};
 ghost use Rattle.canonical_machine.specs.Owners.{IsApart};
 ghost use Rattle.canonical_machine.specs.Plain.{IsPlain};
-ghost use Rattle.wcm.specs.Answers.{Answers, accepted_answer, shown_answer, not_run_answer};
+ghost use Rattle.wcm.specs.Answers.{Answers, accepted_answer, shown_answer};
 ghost use Rattle.wcm.specs.Files.{IsRead, IsOfComponent, IsFileRead, IsFileRefused, IsFileLinked, IsScriptFile, IsScriptFileRefused};
+ghost use Rattle.wcm.specs.Machines.{is_synchronous};
 ghost use Rattle.wcm.specs.Stops.{StopsFor};
 ghost use Rattle.wcm.specs.Status.{IsAnswered};
 ghost use Rattle.command_words.specs.Words as commands;
 ghost use Rattle.command_words.specs.Words.{component_file, said};
 
+use crate::run_on::run_on_answer;
 use crate::status::{Status, status_of_end};
 use answer_texts::{
     accepted_text, graph_text, link_refused_line, refused_line, script_refused_line,
@@ -27,18 +26,18 @@ use builtins::{Run, run_script, trace_text};
 use ca_base::{Bytes, Memory, MemoryOr, Refusal, Seq};
 use ca_io::{FileError, Files, read_all};
 use ca_types::Exports;
-use canonical_machine::tasks_are_over;
 use command_words::Command;
 use comp_graph::Graph;
-use comp_link::{LinkFault, LinkWhy, link};
+use comp_link::link;
 use comp_reader::{Component, ComponentWhy, read_component};
 use graph_laws::laws::{
     calls_are_sound, counted_graphs_are_plain, files_are_bytes, linked_graphs_are_apart,
-    other_items_are_found, read_graphs_are_sound, read_types_are_counted,
+    read_graphs_are_sound, read_types_are_counted,
 };
+use graph_laws::only_calls;
 use script_reader::{Script, ScriptFault, ScriptWhy, read_script};
 use std::alloc::{AllocError, Global};
-use sync_items::{first_not_sync, runs_synchronously};
+use sync_items::runs_synchronously;
 use world::dump_text;
 
 /// What a call of the program answers.
@@ -133,7 +132,7 @@ fn script_of<F: Files>(
     exports: &Exports,
 ) -> Result<Result<Script, ScriptFault>, Stop>
     ensures file { IfOk result (λ found. MatchResult found (IsScriptFile (F.held files.old) name.now exports.now) (IsScriptFileRefused (F.held files.old) name.now exports.now)) }
-    ensures calls { IfOk result (λ found. IfOk found (λ s. AllByRecursion (CallsExport exports.now) s.items)) }
+    ensures items { IfOk result (λ found. IfOk found (λ s. AreItems exports.now 0 s.items)) }
     ensures same { (other : List ℕ) → F.held files.new other ≡ F.held files.old other }
     ensures cause { StopsFor (F.faults files.old) (F.faults files.new) result }
 {
@@ -173,8 +172,9 @@ fn run_text(alloc: Global, run: &Run, dump: bool) -> Result<Bytes, Memory>
     Ok(text)
 }
 
-/// The answer of the run of a graph under a script; `dump` asks for what the run leaves.
+/// The answer of the run of a graph under a script by the machine of synchronous calls; `dump` asks for what the run leaves.
 fn run_answer(alloc: Global, graph: &Graph, script: &Script, dump: bool) -> Result<Answer, Memory>
+    requires synchronous { is_synchronous graph.now script.now ≡ true }
     requires sound { IsSound graph.now script.now }
     requires apart { IsApart graph.now }
     requires plain { IsPlain graph.now }
@@ -212,33 +212,38 @@ fn shown_answer(alloc: Global, graph: &Graph) -> Result<Answer, Memory>
     })
 }
 
-/// The answer that a graph is not run, whose component has the first item of more than synchronous functions that pass no end at this
-/// place.
-fn not_run_answer(alloc: Global, place: usize) -> Result<Answer, Memory>
-    ensures { IfOk result (λ a. a ≡ not_run_answer place) }
+/// Whether the machine of synchronous calls runs a script over a graph.
+fn is_synchronous(graph: &Graph, script: &Script) -> bool
+    ensures { result ≡ is_synchronous graph.now script.now }
 {
-    let fault = LinkFault {
-        place,
-        why: LinkWhy::Limit,
-    };
-    let line = link_refused_line(alloc, &fault)?;
-    Ok(refusal(alloc, Status::LinkRefused, line))
+    runs_synchronously(graph) && only_calls(script)
 }
 
-/// The place of the first item of more than synchronous functions that pass no end of a component, whose graph has such functions.
-fn first_place(component: &Component, graph: &Graph) -> usize
-    requires linked { IsLinked component.now graph.now }
-    requires beyond { runs_synchronously graph.now ≡ false }
-    ensures { first_not_sync component.now ≡ Some result }
+/// The answer of the run of a graph under a script, by the machine that runs it; `dump` asks for what the run leaves.
+fn machine_answer(
+    alloc: Global,
+    graph: &Graph,
+    script: &Script,
+    dump: bool,
+) -> Result<Answer, Memory>
+    requires linked { IsOfComponent graph.now }
+    requires items { AreItems graph.now.exports 0 script.now.items }
+    ensures { IfOk result (λ a. (held : List ℕ → Option (List ℕ)) (file name : List ℕ)
+        → IsFileLinked held file graph.now → IsScriptFile held name graph.now.exports script.now → Answers held (Some (commands.Run file name dump)) a) }
 {
-    other_items_are_found();
-    match first_not_sync(component) {
-        Some(place) => place,
-        None => unreachable!(),
+    read_graphs_are_sound();
+    read_types_are_counted();
+    calls_are_sound();
+    linked_graphs_are_apart();
+    counted_graphs_are_plain();
+    if is_synchronous(graph, script) {
+        run_answer(alloc, graph, script, dump)
+    } else {
+        run_on_answer(alloc, graph, script, dump)
     }
 }
 
-/// The answer for a graph of synchronous functions that pass no end and the script file of this name; `dump` asks for what the run leaves.
+/// The answer for a graph and the script file of this name; `dump` asks for what the run leaves.
 fn script_answer<F: Files>(
     alloc: Global,
     graph: &Graph,
@@ -247,19 +252,13 @@ fn script_answer<F: Files>(
     files: &mut F,
 ) -> Result<Answer, Stop>
     requires linked { IsOfComponent graph.now }
-    requires runs { runs_synchronously graph.now ≡ true }
     ensures file { IfOk result (λ a. (file : List ℕ)
         → IsFileLinked (F.held files.old) file graph.now → Answers (F.held files.old) (Some (commands.Run file script.now dump)) a) }
     ensures same { (other : List ℕ) → F.held files.new other ≡ F.held files.old other }
     ensures cause { StopsFor (F.faults files.old) (F.faults files.new) result }
 {
-    read_graphs_are_sound();
-    read_types_are_counted();
-    calls_are_sound();
-    linked_graphs_are_apart();
-    counted_graphs_are_plain();
     match script_of(alloc, script, files, graph.exports())? {
-        Ok(script) => Ok(run_answer(alloc, graph, &script, dump)?),
+        Ok(script) => Ok(machine_answer(alloc, graph, &script, dump)?),
         Err(fault) => {
             let line = script_refused_line(alloc, fault)?;
             Ok(refusal(alloc, Status::ScriptRefused, line))
@@ -267,9 +266,8 @@ fn script_answer<F: Files>(
     }
 }
 
-/// The answer for a component, its graph, and the script file of this name, which is asked for where all functions of the graph are
-/// synchronous and pass no end; `dump` asks for what the run leaves.
-fn sync_answer<F: Files>(
+/// The answer for a component, its graph, and the script file of this name; `dump` asks for what the run leaves.
+fn linked_answer<F: Files>(
     alloc: Global,
     component: &Component,
     graph: &Graph,
@@ -284,12 +282,7 @@ fn sync_answer<F: Files>(
     ensures same { (other : List ℕ) → F.held files.new other ≡ F.held files.old other }
     ensures cause { StopsFor (F.faults files.old) (F.faults files.new) result }
 {
-    if runs_synchronously(graph) {
-        script_answer(alloc, graph, script, dump, files)
-    } else {
-        let place = first_place(component, graph);
-        Ok(not_run_answer(alloc, place)?)
-    }
+    script_answer(alloc, graph, script, dump, files)
 }
 
 /// The answer of a command for its component and the graph of that.
@@ -309,7 +302,7 @@ fn graph_answer<F: Files>(
 {
     match command {
         Command::Run { script, dump, .. } => {
-            sync_answer(alloc, component, graph, script, dump, files)
+            linked_answer(alloc, component, graph, script, dump, files)
         }
         Command::Check { .. } => Ok(accepted_answer(alloc)?),
         Command::Show { .. } => Ok(shown_answer(alloc, graph)?),
@@ -347,7 +340,6 @@ pub fn answer_of<F: Files>(alloc: Global, command: Command, files: &mut F) -> Re
     ensures same { (other : List ℕ) → F.held files.new other ≡ F.held files.old other }
     ensures cause { StopsFor (F.faults files.old) (F.faults files.new) result }
 {
-    tasks_are_over();
     match component_of(alloc, command.file(), files)? {
         Ok(component) => link_answer(alloc, command, &component, files),
         Err(refused) => {

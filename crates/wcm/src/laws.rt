@@ -5,14 +5,12 @@ ghost use Rattle.wcm.specs.Laws.{CausesHaveAnswers, OneAnswer, RefusedFilesTellA
 use canonical_machine::runs_end;
 use comp_reader::one_reading;
 use graph_laws::laws::{
-    calls_are_sound, linked_graphs_are_apart, other_items_are_found, read_graphs_are_sound,
-    read_types_are_counted,
+    calls_are_sound, linked_graphs_are_apart, read_graphs_are_sound, read_types_are_counted,
 };
 use link_spec::laws::graphs_are_computed;
 use script_reader::scripts_call_exports;
 
-/// A script that is read for a component that is read of bytes and linked is sound, if all functions of its graph are synchronous and
-/// pass no end.
+/// A script that is read for a component that is read of bytes and linked is sound, if the machine of synchronous calls runs it.
 pub fn scripts_are_sound()
     ensures { ScriptsAreSound }
 {
@@ -22,8 +20,8 @@ pub fn scripts_are_sound()
     calls_are_sound();
 }
 
-/// Where the files that words ask for are told, there is one answer at the most, but for the text for the error output where the words
-/// are no command; and there is one, where the files are of bytes.
+/// Where the files that words ask for are told, and what runs is synchronous, there is one answer at the most, but for the text for the
+/// error output where the words are no command; and there is one, where the files are of bytes.
 pub fn one_answer()
     ensures one { OneAnswer }
     ensures some { SomeAnswer }
@@ -32,12 +30,11 @@ pub fn one_answer()
     graphs_are_computed();
     scripts_are_sound();
     linked_graphs_are_apart();
-    other_items_are_found();
     runs_end();
 }
 
 /// The status of an answer has its cause, and each cause has an answer with its status. A component file that is told and refused, or
-/// whose component is not linked or not run, leaves nothing to be told.
+/// whose component is not linked, leaves nothing to be told and nothing to be run.
 pub fn statuses_have_causes()
     ensures causes { StatusesHaveCauses }
     ensures answers { CausesHaveAnswers }

@@ -1,14 +1,17 @@
 //! Runs components.
 //!
 //! - `top`: the call that reads the words and the files, and writes the answer
-//! - `answer`: the answer of a command; `status`: how a call ends
+//! - `answer`: the answer of a command; `run_on`: that of a run by the machine of asynchronous calls; `status`: how a call ends
+//! - `gathered`: a sink that gathers all that is written
 //! - `adapters`: the files of the system and the standard streams
 //! - `laws`: what holds of the definitions alone
 #![tactic(auto)]
 
 mod adapters;
 mod answer;
+mod gathered;
 mod laws;
+mod run_on;
 mod status;
 mod top;
 #[cfg(test)]

@@ -2,9 +2,10 @@
 
 ghost use Rattle.std.specs.Prelude.{◌≡◌};
 ghost use Rattle.std.specs.Process.{exit_status};
-ghost use Rattle.wcm.specs.Status.{status_of, status_code};
+ghost use Rattle.wcm.specs.Status.{status_of, status_of_run, status_code};
 
 use canonical_machine::RunEnd;
+use machine_runs::RunEnd as KeptEnd;
 use std::process::ExitCode;
 
 /// How a call of the program ends.
@@ -28,9 +29,9 @@ pub enum Status {
     ReadFault,
     /// The output or the error output took no more.
     WriteFault,
-    /// Memory ran out.
+    /// Memory ran out; or no rule applies in a run of asynchronous calls, or it has more steps than are made.
     Memory,
-    /// The component is not linked, or it is to be run and has more than synchronous functions that pass no end.
+    /// The component is not linked.
     LinkRefused,
 }
 
@@ -71,5 +72,17 @@ pub fn status_of_end(end: &RunEnd) -> Status
         RunEnd::Trapped { .. } => Status::Trap,
         RunEnd::Deadlock { .. } => Status::Deadlock,
         RunEnd::Fuel => Status::Fuel,
+    }
+}
+
+/// The status of a run of the machine of asynchronous calls that ends so.
+pub fn status_of_run_end(end: KeptEnd) -> Status
+    ensures { result ≡ status_of_run end }
+{
+    match end {
+        KeptEnd::Done => Status::Done,
+        KeptEnd::Trap => Status::Trap,
+        KeptEnd::Deadlock => Status::Deadlock,
+        KeptEnd::Fuel => Status::Fuel,
     }
 }

@@ -7,7 +7,7 @@ ghost use Rattle.wcm.specs.declared.answer.Answer.{Answer};
 ghost use Rattle.wcm.specs.Answers.{Answers};
 ghost use Rattle.wcm.specs.Causes.{IsCaused};
 ghost use Rattle.wcm.specs.Files.{IsTold};
-ghost use Rattle.wcm.specs.Status.{IsGiven, IsFinal};
+ghost use Rattle.wcm.specs.Status.{IsFinal};
 ghost use Rattle.command_words.specs.Words.{Command, command_of, is_taken, plain_command};
 ghost use Rattle.wcm.specs.Written.{WroteAll, WroteFront, WroteFrontOrLine};
 
@@ -42,12 +42,10 @@ fn write_answer<K: Sink>(answer: &Answer, out: &mut K, err: &mut K) -> Result<()
 /// answers how it ends. `words[0]` is the program's name. Every command reads and links the component file FILE. Then
 /// `check FILE` tells that it is linked, `show FILE` what can be called of it, and `run FILE SCRIPT` reads the script file,
 /// makes the core instances and then the script's calls, and writes the trace to the output; with `--dump` what the run
-/// leaves stands behind it. A graph of more than synchronous functions that pass no end is not run. For words that are none of these a
-/// text for the user goes to the error output.
+/// leaves stands behind it. For words that are none of these a text for the user goes to the error output.
 ///
 /// What it answers is a row of `Answers`, by the command that the words lead to and what the files may hold: what is told of them, or
-/// anything. They are told where the component file is, and, where `run` finds that one linked to a graph of synchronous functions that
-/// pass no end, the script file too.
+/// anything. They are told where the component file is, and, where `run` finds that one linked, the script file too.
 #[tactic(auto, using(crate::proofs::Taken::grown_nil, crate::proofs::Taken::took, command_words::proofs::Plain::plain_is))]
 pub fn run_words<F: Files, K: Sink>(
     alloc: Global,
@@ -64,8 +62,8 @@ pub fn run_words<F: Files, K: Sink>(
         → (a : Answer) × Answers (F.held files.old) (command_of (map string_bytes words.now)) a × (result ≡ a.status)
         × WroteAll a (K.taken out.old) (K.taken out.new) (K.taken err.old) (K.taken err.new) }
 
-    // The same where no fault and no want of memory ended the call. Where the files are told, each status comes exactly where it has a
-    // cause in what they hold.
+    // The same where no fault and no want of memory ended the call. Where the files are told, and what runs is synchronous, each status
+    // comes exactly where it has a cause in what they hold.
     ensures written { IsFinal result
         → (a : Answer) × Answers (F.held files.old) (command_of (map string_bytes words.now)) a × (result ≡ a.status)
         × WroteAll a (K.taken out.old) (K.taken out.new) (K.taken err.old) (K.taken err.new) }
@@ -79,9 +77,6 @@ pub fn run_words<F: Files, K: Sink>(
     ensures usage_is_silent { is_taken (map string_bytes words.now) ≡ false → (files.new ≡ files.old) × (out.new ≡ out.old) }
     ensures plain { (command : Command) → plain_command (map string_bytes words.now) ≡ Some command
         → (command_of (map string_bytes words.now) ≡ Some command) × (result ≢ Status.Usage) }
-
-    // No run ends with tasks that cannot go on.
-    ensures given { IsGiven result }
 
     // A read fault, only where the count of the files' faults rose; wherever it grew, unless a write fault or want of
     // memory took its place. The output took nothing, and the error output the line.

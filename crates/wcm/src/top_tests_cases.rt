@@ -73,7 +73,7 @@ add.wasm add.txt
 ";
 
 /// How many cases there are.
-pub const COUNT: u32 = 53;
+pub const COUNT: u32 = 54;
 
 /// The cases.
 pub const CASES: &str = "
@@ -266,7 +266,7 @@ last calls
 status LinkRefused
 err link refused at 60: Missing(sub)
 
-# so does a component that is linked and has built-ins, which are not run
+# behind one that is linked and has built-ins the script is read, too
 front 89
 change 83 5
 change 84 5
@@ -275,8 +275,8 @@ change 86 5
 change 87 5
 change 88 5
 words wcm run add.wasm missing.txt
-status LinkRefused
-err link refused at 84: Limit
+status ReadFault
+err read fault
 
 front 89
 change 83 5
@@ -286,8 +286,8 @@ change 86 5
 change 87 5
 change 88 5
 reads 3
-status LinkRefused
-err link refused at 84: Limit
+status ReadFault
+err read fault
 
 front 89
 change 83 5
@@ -297,8 +297,18 @@ change 86 5
 change 87 5
 change 88 5
 last calls
-status LinkRefused
-err link refused at 84: Limit
+status ScriptRefused
+err script refused at line 1: Form
+
+front 89
+change 83 5
+change 84 5
+change 85 5
+change 86 5
+change 87 5
+change 88 5
+status Done
+out done
 
 front 89
 change 83 5

@@ -12,7 +12,7 @@ returns-in-Ok-clause-status g c =
     let held = g.F.Files.held c.args.files.now in
     let name = c.file.result.now in
     let read = of_ok (IsFileRead held name) (IsFileRefused held name) c.in_ok-component.field-0 c.in-Ok.component c.in-Ok.is c.in_ok-component.ensures.file in
-    answered_after c.tasks_are_over.ensures.no_deadlock held (g.F.Files.held c.component_of.new.files) (said c.args.command) c.in-Ok.component c.link_answer.result c.component_of.ensures.same
+    answered_after held (g.F.Files.held c.component_of.new.files) (said c.args.command) c.in-Ok.component c.link_answer.result c.component_of.ensures.same
     (subst (λ (name : List ℕ). IsFileRead held name c.in-Ok.component) c.file.ensures read) c.link_answer.ensures.file
 
 pub returns-in_ok-line-in-Err-clause-files : goal.returns-in_ok-line-in-Err-clause-files

@@ -5,5 +5,5 @@ use Rattle.wcm.proofs.laws.one_answer.Goals as goal
 pub returns : goal.returns
 returns c = record {
   one = one_answer;
-  some = some_answer c.one_reading.ensures c.graphs_are_computed.ensures.one c.scripts_are_sound.ensures c.linked_graphs_are_apart.ensures c.other_items_are_found.ensures c.runs_end.ensures.ends;
+  some = some_answer c.one_reading.ensures c.graphs_are_computed.ensures.one c.scripts_are_sound.ensures c.linked_graphs_are_apart.ensures c.runs_end.ensures.ends;
 }

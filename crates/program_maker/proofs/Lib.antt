@@ -1,0 +1,3 @@
+pub mod NumbersPassed
+pub mod ResourcesDefined
+pub mod Zips
