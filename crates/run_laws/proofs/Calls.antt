@@ -139,8 +139,8 @@ at_once : (g : Graph) (values : List ValType) (s : Script) (t : ℕ) (before : L
 at_once g values s t before stacks d u a = (stacks, inl refl, (zero, a))
 
 if_may : (g : Graph) (values : List ValType) (s : Script) (t : ℕ) (stacks : List (List Stack)) (h : Held) (w : World) (d : Done Flow) (u : Turn) (b c : Bool) → b ≡ c → Stands g values s h stacks w
-    → AgreesSo g values s t h.labels stacks d u → AgreesSo g values s t h.labels stacks (if b then d else Traps trap.CannotLeave h) (if c then u else doomed t trap.CannotLeave w)
-if_may g values s t stacks h w d u true true same st a = a
+    → (c ≡ true → AgreesSo g values s t h.labels stacks d u) → AgreesSo g values s t h.labels stacks (if b then d else Traps trap.CannotLeave h) (if c then u else doomed t trap.CannotLeave w)
+if_may g values s t stacks h w d u true true same st a = a refl
 if_may g values s t stacks h w d u false false same st a = at_once g values s t h.labels stacks (Traps trap.CannotLeave h) (doomed t trap.CannotLeave w) (on_trap g values s t h.labels stacks h w trap.CannotLeave refl st)
 if_may g values s t stacks h w d u true false same st a = absurd (cc)
 if_may g values s t stacks h w d u false true same st a = absurd (cc)
@@ -148,7 +148,7 @@ if_may g values s t stacks h w d u false true same st a = absurd (cc)
 -- What the function answers behind the line: any but those that are answered everywhere,
 other_is : (g : Graph) (values : List ValType) (s : Script) (types : List (Option ℕ)) (h : Held) (stacks : List (List Stack)) (w : World) (t : ℕ) (task : Task) (number : ℕ) (c : CanonFunc) (words : List ℕ)
     → Stands g values s h stacks w → exempt_answer t words c h ≡ Gives None h → exempt_of t words c ≡ None
-    → AgreesSo g values s t h.labels stacks (canon_answered g types t number c words h) (reply g t task number c words w)
+    → (reading.may_leave w ≡ true → AgreesSo g values s t h.labels stacks (canon_answered g types t number c words h) (reply g t task number c words w))
     → AgreesSo g values s t h.labels stacks (allowed g types t number c words h) (machine.allowed g t task number c words (exempt_of t words c) w)
 unfolding allowed machine.allowed
 other_is g values s types h stacks w t task number c words st answered exempt row =
@@ -190,7 +190,8 @@ rep_is g values s types h stacks w t task number b words resource word is_word i
 -- by what it is
 kind_is : (g : Graph) (values : List ValType) (s : Script) (types : List (Option ℕ)) (h : Held) (stacks : List (List Stack)) (w : World) (t : ℕ) (task : Task) (number : ℕ) (b : Builtin) (words : List ℕ)
     (k : BuiltinKind) → slice_get w.tasks t ≡ Some task → Stands g values s h stacks w → b.kind ≡ k
-    → KindRow (AgreesSo g values s t h.labels stacks (canon_answered g types t number (canon.Builtin b) words h) (reply g t task number (canon.Builtin b) words w)) w b.instance k words
+    → KindRow (reading.may_leave w ≡ true → AgreesSo g values s t h.labels stacks (canon_answered g types t number (canon.Builtin b) words h) (reply g t task number (canon.Builtin b) words w)) w
+    b.instance k words
     → AgreesSo g values s t h.labels stacks (allowed g types t number (canon.Builtin b) words h)
     (machine.allowed g t task number (canon.Builtin b) words (exempt_of t words (canon.Builtin b)) w)
 kind_is g values s types h stacks w t task number b words (kind.Resource resource_op.New resource) there st is row =
@@ -218,7 +219,7 @@ kind_is g values s types h stacks w t task number b words (kind.End of_what elem
 
 canon_is : (g : Graph) (values : List ValType) (s : Script) (types : List (Option ℕ)) (h : Held) (stacks : List (List Stack)) (w : World) (t : ℕ) (task : Task) (number : ℕ) (c : CanonFunc) (words : List ℕ)
     → slice_get w.tasks t ≡ Some task → Stands g values s h stacks w
-    → CanonRow (AgreesSo g values s t h.labels stacks (canon_answered g types t number c words h) (reply g t task number c words w)) w c words
+    → CanonRow (reading.may_leave w ≡ true → AgreesSo g values s t h.labels stacks (canon_answered g types t number c words h) (reply g t task number c words w)) w c words
     → AgreesSo g values s t h.labels stacks (allowed g types t number c words h) (machine.allowed g t task number c words (exempt_of t words c) w)
 canon_is g values s types h stacks w t task number (canon.Lower l) words there st row =
     other_is g values s types h stacks w t task number (canon.Lower l) words st refl refl row

@@ -122,6 +122,9 @@ options_in None = refl
 options_in (Some (canon.Lower l)) = refl
 options_in (Some (canon.Builtin b)) = kind_options b.kind
 
+pub options_same : (c : CanonFunc) → seen.options_of c ≡ machine.options_of_canon c
+options_same c = options_in (Some c)
+
 pub options_are_alike : OptionsAreAlike
 options_are_alike g number = options_in (slice_get g.canons number)
 

@@ -75,7 +75,7 @@ by_left : {A B : Type 0} (R : A → B → Type 0) (xs : List A) (ys : List B) (n
 by_left R xs ys n x all e = there R x (slice_get ys n) (subst (λ o. BothAt R o (slice_get ys n)) e (at_both R xs ys n all))
 
 -- What is written twice is written once.
-set_twice : {A : Type 0} (xs : List A) (n : ℕ) (x y : A) → slice_set (slice_set xs n x) n y ≡ slice_set xs n y
+pub set_twice : {A : Type 0} (xs : List A) (n : ℕ) (x y : A) → slice_set (slice_set xs n x) n y ≡ slice_set xs n y
 set_twice [] n x y = refl
 set_twice (a ∷ xs) zero x y = refl
 set_twice (a ∷ xs) (suc n) x y = ap (λ zs. a ∷ zs) (set_twice xs n x y)

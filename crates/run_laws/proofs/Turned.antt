@@ -63,7 +63,8 @@ use Rattle.standing.proofs.Going.{after_after, done_as, task_goes_on}
 use Rattle.standing.proofs.Taking.{call_is_taken}
 use Rattle.standing.proofs.Steps.{found, if_true, if_false}
 use Rattle.run_laws.specs.Points.{stacks_at, StepAgrees}
-use Rattle.run_laws.specs.Turns.{IsProgram, Costs}
+use Rattle.run_laws.specs.Turns.{IsProgram}
+use Rattle.run_laws.proofs.Costs.{Costs, cancel_costs}
 
 -- One step more of the machine.
 reaches_more : (g : Graph) (s : Script) (w mid v : World) (steps : List (List Label)) (lines : List Label) → Reaches g s w steps mid → next g s mid ≡ Steps lines v
@@ -267,7 +268,7 @@ call_is g s p h w call program counted is =
 pub item_steps : (g : Graph) (values : List ValType) (s : Script) (p : Program) (h : Held) (piles : List PileView) (w mid now : World) (steps : List (List Label)) (next_item : Item)
     → IsProgram g s p → length h.calls ≡ machine.calls_taken s now → slice_get s.items now.taken ≡ Some next_item → Stands g values s h (stacks_at piles) now
     → ((number : ℕ) → next_item ≡ item.Cancel number
-    → AgreesMade g values s 0 h.labels (stacks_at piles) (resting (call_cancelled number h)) (alternative_turn g s (Takes (item.Cancel number)) now) × Costs h.labels (call_cancelled number h))
+    → AgreesMade g values s 0 h.labels (stacks_at piles) (resting (call_cancelled number h)) (alternative_turn g s (Takes (item.Cancel number)) now))
     → Reaches g s w steps mid → lines_of steps ≡ h.labels → next g s mid ≡ alternative_turn g s (Takes next_item) now
     → StepAgrees g values s [] w (after (item_done p next_item h) (item_step piles))
 item_steps g values s p h piles w mid now steps (item.Call call) program counted is st cancels r same turn =
@@ -280,9 +281,9 @@ item_steps g values s p h piles w mid now steps (item.Call call) program counted
     (stacks_at piles ++ [] ∷ [], inr refl, done_as g values s (length h.tasks) h.labels (stacks_at piles ++ [] ∷ []) _ _ _ (call_rests c.export c.instance c.kind call.name c.args h) row)
     r same turn (call_costs c.export c.instance c.kind call.name c.args h) (λ k long. piles_grow piles (stacks_at piles ++ [] ∷ []) (length k.tasks) (inr refl) long))
 item_steps g values s p h piles w mid now steps (item.Cancel number) program counted is st cancels r same turn =
-    let row : _ = cancels number refl in
-    rest_step g values s 0 piles w mid steps h.labels (call_cancelled number h) (alternative_turn g s (Takes (item.Cancel number)) now) (λ k. with_piles (length k.tasks) piles) row.0 r same turn row.1
-    (λ k long. piles_grow piles row.0.0 (length k.tasks) row.0.1 long)
+    let row : AgreesMade g values s 0 h.labels (stacks_at piles) (resting (call_cancelled number h)) (alternative_turn g s (Takes (item.Cancel number)) now) = cancels number refl in
+    rest_step g values s 0 piles w mid steps h.labels (call_cancelled number h) (alternative_turn g s (Takes (item.Cancel number)) now) (λ k. with_piles (length k.tasks) piles) row r same turn
+    (cancel_costs number h) (λ k long. piles_grow piles row.0 (length k.tasks) row.1 long)
 
 -- Of the alternatives the one of a number is done.
 pub item_taken_is : (p : Program) (s : Script) (h : Held) (piles : List PileView) (next_item : Item) → p.script.now ≡ s → slice_get s.items h.taken ≡ Some next_item

@@ -1,7 +1,7 @@
 -- Calls of canonical functions (Component Model, CanonicalABI.md, "Canonical Definitions"; "Component Instance State": `may_leave`): behind the line
 -- of the call, words of context and representations are answered as the machine answers them, and any other function where the instance may be left;
 -- so where what each function answers is what the machine answers, the whole call is.
-use Rattle.std.specs.Prelude.{◌≡◌, ℕ, List, [], ◌∷◌, ◌++◌, Option, Some, IsSome}
+use Rattle.std.specs.Prelude.{◌≡◌, ℕ, true, List, [], ◌∷◌, ◌++◌, Option, Some, IsSome}
 use Rattle.std.specs.List.{slice_get}
 use Rattle.ca_types.specs.declared.types.ValType.{ValType}
 use Rattle.wasm_store.specs.Stack.{Stack}
@@ -53,7 +53,7 @@ abbrev pub AgreesSo : Graph → List ValType → Script → ℕ → List Label �
 AgreesSo g values s t before stacks d turn = (now : List (List Stack)) × MayGrow stacks now × AgreesOn g values s t before now d turn
 
 -- What is asked of a canonical function that a task calls with words: of those that are answered also where the instance may not be left, words and an
--- instance that is there; of each other one that it answers as the machine does, behind the line of its call.
+-- instance that is there; of each other one that it answers as the machine does, behind the line of its call, where the instance may be left.
 abbrev pub line_told : ℕ → CanonFunc → List ℕ → Held → Held
 line_told t c words h = record h { labels = h.labels ++ line.Do t (builtin_of c) words ∷ [] }
 
@@ -94,5 +94,5 @@ CallAgrees =
     (g : Graph) (values : List ValType) (s : Script) (types : List (Option ℕ)) (h : Held) (stacks : List (List Stack)) (w : World) (t : ℕ) (task : Task) (number : ℕ)
     (c : CanonFunc) (words : List ℕ)
     → slice_get w.chain 0 ≡ Some t → slice_get w.tasks t ≡ Some task → canon_at g number ≡ Some c → KeepsWords h t words
-    → CanonRow (Answers g values s types h stacks w t task number c words) w c words → Stands g values s h stacks w
+    → CanonRow (reading.may_leave w ≡ true → Answers g values s types h stacks w t task number c words) w c words → Stands g values s h stacks w
     → AgreesSo g values s t h.labels stacks (calls g types number h) (calling_turn g number words w)

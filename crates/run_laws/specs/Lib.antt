@@ -3,3 +3,13 @@ pub mod Dispatch
 pub mod Turns
 pub mod Runs
 pub mod Lowered
+pub mod Answering
+pub mod Instantiation
+pub mod Reached
+pub mod KeptMarks
+pub mod Taking
+pub mod Lifted
+pub mod Elements
+pub mod Completed
+pub mod Copied
+pub mod Transfers

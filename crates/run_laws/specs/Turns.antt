@@ -9,10 +9,9 @@ use Rattle.script_reader.specs.declared.script.Call.{Call}
 use Rattle.script_reader.specs.declared.script.Item.TheVariants as item
 use Rattle.script_reader.specs.Script.{Script}
 use Rattle.trace_show.specs.declared.label.Label.{Label}
-use Rattle.trace_show.specs.declared.trap.TrapName.{TrapName}
 use Rattle.programs.specs.declared.program.CallNumbers.{CallNumbers}
 use Rattle.programs.specs.declared.program.Program.{Program}
-use Rattle.world_parts.specs.Held.{Held, Done, Traps, Spent}
+use Rattle.world_parts.specs.Held.{Held}
 use Rattle.world_parts.specs.Turning.{able, call_cancelled}
 use Rattle.world_stacks.specs.Views.{PileView}
 use Rattle.replies.specs.Seen.{seen}
@@ -38,16 +37,10 @@ pub record IsProgram (g : Graph) (s : Script) (p : Program) : Type 0 where
   pub calls : (n : ℕ) (call : Call) → slice_get s.items n ≡ Some (item.Call call)
       → (numbers : CallNumbers) × (slice_get p.calls.items (count_by is_call (take n s.items)) ≡ Some numbers) × IsNamed g p call numbers
 
--- What a part that costs a unit leaves where none is left, and that it does not trap.
-pub record Costs {A : Type 0} (before : List Label) (d : Done A) : Type 0 where
-  pub spent : (k : Held) → d ≡ Spent k → k.labels ≡ before
-  pub no_trap : (why : TrapName) (k : Held) → d ≡ Traps why k → ⊥
-
 -- The next item, where it is a cancel, is taken as the machine takes it, whatever was picked before.
 abbrev pub CancelAt : Graph → List ValType → Script → Held → List (List Stack) → World → ℕ → Type 0
 CancelAt g values s h stacks w number =
     AgreesMade g values s 0 h.labels stacks (resting (call_cancelled number h)) (alternative_turn g s (Takes (item.Cancel number)) w)
-    × Costs h.labels (call_cancelled number h)
 
 abbrev pub CancelRow : Graph → List ValType → Script → Held → List (List Stack) → World → Type 0
 CancelRow g values s h stacks w =

@@ -3,18 +3,26 @@
 //!
 //! `machine_runs` says what steps and runs over what is kept are, `abi_machine` what those of worlds are, and `standing` when what is kept
 //! stands for a world. `specs/Points` says where both are between the steps of the former, and what it means that a step does what the machine
-//! does; `specs/Dispatch` that calls of canonical functions do, where each function's answer does, and `specs/Turns` that turns do;
-//! `specs/Runs` has runs of core code, and `specs/Lowered` lowerings.
+//! does; `specs/Dispatch` that calls of canonical functions do, where each function's answer does, `specs/Answering` that each answer does, and
+//! `specs/Turns` that turns do;
+//! `specs/Runs` has runs of core code, `specs/Instantiation` instantiation, `specs/Lowered` lowerings, and `specs/Lifted` liftings, over
+//! `specs/Taking` for one index of a table.
 //!
 //! - `dispatch`: calls of canonical functions
-//! - `running`: runs of core code, and lowerings
+//! - `lifting`: values that are lifted
+//! - `running`: runs of core code, instantiation, lowerings, and copies
 //! - `turns`: turns, where no task runs
 #![tactic(auto)]
 
 mod dispatch;
+mod lifting;
 mod running;
 mod turns;
 
-pub use dispatch::{calls_agree, canons_alike};
-pub use running::{lowerings_stand, run_steps_agree};
+pub use dispatch::{all_answer, calls_agree, canons_alike, marks_last, worlds_supply};
+pub use lifting::{indices_agree, liftings_agree};
+pub use running::{
+    copies_are_completed, copies_transfer, elements_go_over, elements_stand, instantiation_agrees,
+    lowerings_stand, run_steps_agree,
+};
 pub use turns::turns_agree;

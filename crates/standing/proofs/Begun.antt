@@ -46,7 +46,7 @@ none_among : (count instance : ℕ) (slots : List TaskSlot) → kept_tasks.is_am
 none_among zero instance slots = refl
 none_among (suc count) instance slots = refl
 
-in_instance : (instance at : ℕ) (o : Option Lifted) → IsSome o → RunsIn at o → nat_eq at instance ≡ is_in instance o
+pub in_instance : (instance at : ℕ) (o : Option Lifted) → IsSome o → RunsIn at o → nat_eq at instance ≡ is_in instance o
 in_instance instance at None some st = absurd (cc)
 in_instance instance at (Some f) some st = ap (λ (n : ℕ). nat_eq n instance) st
 

@@ -71,7 +71,7 @@ up_pressure : (b : Bool) (gate : GateView) → (if b then record gate { holder =
 up_pressure true gate = refl
 up_pressure false gate = refl
 
-exit_stands : (g : Graph) (s : Script) (x : TaskSlot) (a : Task) → x.errand ≡ errand.None → TaskStands g s x a
+pub exit_stands : (g : Graph) (s : Script) (x : TaskSlot) (a : Task) → x.errand ≡ errand.None → TaskStands g s x a
     → TaskStands g s (slots.with_task (record x.task { phase = phase.Exited }) x) (record a { state = Exited })
 exit_stands g s x a none st = record {
   does = st.does;

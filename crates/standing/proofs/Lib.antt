@@ -57,3 +57,9 @@ pub mod LoweredEntries
 pub mod HostCalls
 pub mod Lowers
 pub mod Plans
+pub mod HandlesFound
+pub mod HandleDrops
+pub mod MadeInstances
+pub mod Instantiates
+pub mod KeptMarks
+pub mod marks

@@ -400,7 +400,7 @@ module _ (g : Graph) (values : List ValType) (s : Script) (w : World) (l : Lower
       let is : came ≡ Ended (Trapped hosted.NoRealloc) = x.2 ∙ ap (λ (end : RoomEnd HostedTrap). Ended end) (err_same x.0 (Trapped hosted.NoRealloc) answers.0) in
       at_end came (Ended (Trapped hosted.NoRealloc)) p after is
       (ap (λ (r : HostedRoom). (let q : Placed WorldEntry = record { room = r; slots = after.slots } in q)) answers.1
-      ∙ ap (λ (sl : Slots WorldEntry). (let q : Placed WorldEntry = record { room = p.room; slots = sl } in q)) x.1.1)
+      ∙ ap (λ (sl : Slots WorldEntry). (let q : Placed WorldEntry = record { room = p.room; slots = sl } in q)) x.1.2)
       (record { used = n; units = h.fuel; table = table; stands = h.stands; leads = tt })
   asked_leads p0 n table0 whole m p table ask k came after (Some f) counts h e more (inl x) =
       let mid : Placed WorldEntry = x.1 in
@@ -409,14 +409,14 @@ module _ (g : Graph) (values : List ValType) (s : Script) (w : World) (l : Lower
       let placed = places p.slots table h.stands ask f h.agrees.0 gives.0 x.0 mid.room last gives.2 in
       more x.0 placed.0 mid table
       (is_left mid placed.0 table (k x.0) (h.agrees.0 x.0) placed.2 (h.agrees.2 x.0) placed.3 placed.1
-      (subst (λ (sl : Slots WorldEntry). StandsBy (EntryStands values) table sl) (sym x.2.0.1) h.stands)) x.3
+      (subst (λ (sl : Slots WorldEntry). StandsBy (EntryStands values) table sl) (sym x.2.0.2) h.stands)) x.3
   asked_leads p0 n table0 whole m p table ask k came after (Some f) counts h e more (inr x) =
       let gives = subst (λ (o : Option (ℕ × Function)). AnswersBy to (handles.view_at seen_as p.slots) o p.room ask (Err x.0) after.room) e x.1.0 in
       let last = goes_along p.slots table h.stands ask f h.agrees.0 (record { room = p.room; stack = begun f ask }) gives.0 (code_begins p0 n table0 whole m p table ask k f h e) gives.1 in
       let told : IsTold x.0 = subst Counts x.2 counts in
       let end : End (Ended x.0) (record { room = after.room; slots = p.slots }) = stops p.slots table h.stands ask f h.agrees.0 gives.0 x.0 after.room told last gives.2 in
       subst (λ (c : Came HostedTrap). End c after) (sym x.2)
-      (subst (λ (sl : Slots WorldEntry). End (Ended x.0) (record { room = after.room; slots = sl })) (sym x.1.1) end)
+      (subst (λ (sl : Slots WorldEntry). End (Ended x.0) (record { room = after.room; slots = sl })) (sym x.1.2) end)
 
   -- A plan, up to its end.
   plan_leads : (plan : lower.Plan) (p0 : Placed WorldEntry) (n : ℕ) (table0 : List (Event Entry)) (whole : machine.Plan) (m : machine.Plan) (p : Placed WorldEntry) (table : List (Event Entry))
@@ -441,7 +441,7 @@ module _ (g : Graph) (values : List ValType) (s : Script) (w : World) (l : Lower
   plan_leads (lower.Put place bytes k) p0 n table0 whole m p table came after counts h f =
       let mid : Placed WorldEntry = f.0 in
       let put : List ℕ = written place bytes (memory_of p) in
-      let store : mid.room.store ≡ with_bytes_in to.options.memory put p.room.store = ap (λ (x : HostedRoom). x.store) f.1.0.0 in
+      let store : mid.room.store ≡ with_bytes_in to.options.memory put p.room.store = ap (λ (x : HostedRoom). x.store) f.1.0.1 in
       let many : HasAsMany p.room.store mid.room.store = subst (λ (b : Store). HasAsMany p.room.store b) (sym store) (put_count to.options.memory put p.room.store) in
       plan_leads k p0 n table0 whole h.agrees.0 mid table came after counts
       (record {
@@ -450,9 +450,9 @@ module _ (g : Graph) (values : List ValType) (s : Script) (w : World) (l : Lower
         settles = h.settles ∙ ap (λ (x : machine.Plan). settle l.acts_for x (memory_of p) table) h.agrees.1 ∙ ap (λ (x : List ℕ). settle l.acts_for h.agrees.0 x table) (sym f.1.1);
         puts = λ x. h.puts x ∙ sym (put_again to.options.memory x put p.room.store) ∙ ap (λ (b : Store). with_bytes_in to.options.memory x b) (sym store);
         memory = memory_kept l.memory to.options.memory p.room.store mid.room.store many h.memory;
-        fuel = ap (λ (x : HostedRoom). n + x.fuel) f.1.0.0 ∙ h.fuel;
-        acts = ap (λ (x : HostedRoom). x.acts) f.1.0.0 ∙ h.acts;
-        stands = subst (λ (x : Slots WorldEntry). StandsBy (EntryStands values) table x) (sym f.1.0.1) h.stands;
+        fuel = ap (λ (x : HostedRoom). n + x.fuel) f.1.0.1 ∙ h.fuel;
+        acts = ap (λ (x : HostedRoom). x.acts) f.1.0.1 ∙ h.acts;
+        stands = subst (λ (x : Slots WorldEntry). StandsBy (EntryStands values) table x) (sym f.1.0.2) h.stands;
       }) f.2
   plan_leads (lower.Adds entry k) p0 n table0 whole m p table came after counts h f =
       let mid : Placed WorldEntry = f.1 in

@@ -30,7 +30,7 @@ use Rattle.abi_machine.specs.LoweringOver as machine
 use Rattle.abi_machine.specs.Pausing as pause
 use Rattle.abi_machine.specs.Pausing.{entries_by, borrow_entered}
 use Rattle.standing.specs.Lowers.{NewAgrees, PlanAgrees}
-use Rattle.standing.specs.Plans.{AreOwn, FlatAgrees, PlacedAgrees, StoredAgrees}
+use Rattle.standing.specs.Plans.{AreOwn, FlatAgrees, PlacedAgrees, StoredAgrees, ElementsAgree}
 
 either_agrees : (b : Bool) (p q : lower.Plan) (m n : machine.Plan) → (b ≡ true → PlanAgrees p m) → (b ≡ false → PlanAgrees q n) → PlanAgrees (if b then p else q) (if b then m else n)
 either_agrees true p q m n h i = h refl
@@ -276,6 +276,13 @@ module _ (home : List ℕ) (is_own : ℕ → Bool) (own : AreOwn home is_own) wh
   all_agree : (v : Value) → Agreeing v
   all_agree = ind-Value Agreeing (λ x y e. subst (λ (z : V.Value-F Value). Agreeing (roll-Value z)) e (agreeing_step y))
 
+  all_stored_at : (t : ValType) (place : ℕ) (all : List Value) (k : lower.Plan) (l : machine.Plan) → ((n : ℕ) (v : Value) → slice_get all n ≡ Some v → fits v t ≡ true) → PlanAgrees k l
+      → PlanAgrees (code.elements_from t place (map low all) k) (machine.elements_from t place (map high all) l)
+  all_stored_at t place [] k l f h = h
+  all_stored_at t place (v ∷ all) k l f h =
+      (all_agree v t (f zero v refl)).store place (code.elements_from t (place + (laid t).size) (map low all) k) (machine.elements_from t (place + (laid t).size) (map high all) l)
+      (all_stored_at t (place + (laid t).size) all k l (λ n. f (suc n)) h)
+
   flat_at : (t : ValType) (v : Value) → fits v t ≡ true → PlanAgrees (entering.flat_lowered (entered home) t v) (machine.flat_lowered (entries_by is_own) t v)
   flat_at t v f = (all_agree v t f).words [] (λ words. lower.Gives words) (λ words. machine.Gives words) (λ ws. refl)
 
@@ -297,3 +304,6 @@ placed_agrees home is_own type v own f = placed_at home is_own own type v f
 
 pub stored_agrees : StoredAgrees
 stored_agrees home is_own type v place own f = stored_at home is_own own type v place f
+
+pub elements_alike : ElementsAgree
+elements_alike home is_own type all place own f = all_stored_at home is_own own type place all (lower.Gives []) (machine.Gives []) f refl

@@ -248,7 +248,7 @@ nested_code_leads g values s n stacks x w (Err stop.Stuck) new at gives = tt
 nested_code_leads g values s n stacks x w (Err stop.Memory) new at gives = tt
 
 -- A call of a function of the store, as it is kept.
-address_same : (store : Store) (func : FuncRef) → kept_addresses.func_address store func ≡ func_address store func
+pub address_same : (store : Store) (func : FuncRef) → kept_addresses.func_address store func ≡ func_address store func
 address_same store (func_ref.Instance f) = refl
 address_same store (func_ref.Canon number) = refl
 

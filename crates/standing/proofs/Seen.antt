@@ -113,7 +113,7 @@ by_resource : (resource : ℕ) (o : Option Resource) (f : Lifted) → callee_in 
 by_resource resource None f h = absurd (cc)
 by_resource resource (Some r) f h = by_core resource r.instance r.destructor f h
 
-resource_same : (g : Graph) (number : ℕ) → view.resource_at g number ≡ machine.resource_at g number
+pub resource_same : (g : Graph) (number : ℕ) → view.resource_at g number ≡ machine.resource_at g number
 resource_same g zero = refl
 resource_same g (suc place) =
     ap (λ (b : Bool). if b then None else slice_get g.resources (suc place - 1)) (ne_eqb (suc place) 0 (λ (e : suc place ≡ 0). omega (arith, e)))

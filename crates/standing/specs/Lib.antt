@@ -28,3 +28,7 @@ pub mod InPlace
 pub mod PostReturns
 pub mod Lowers
 pub mod Plans
+pub mod HandleDrops
+pub mod Instantiates
+pub mod KeptMarks
+pub mod MarksKept

@@ -4,6 +4,8 @@ ghost use Rattle.standing.specs.First.{FirstStands};
 ghost use Rattle.standing.specs.Edits.{InstancesChange, InstancesStay, RefusalsChangeNothing, InstancesBegin, EntriesAreAlike, NextIsAlike, RoomIsAlike, EntriesAreAdded, EntriesAreRemoved, EntriesStayAlike, SetsAreMade, WaitablesLeave, WaitablesJoin, WaitersAreNotSaid, PressureChanges, EntryIsNotSaid, TasksChange, TasksAreMade, StacksAreAnswered, TasksComeToTheChain, TasksLeaveTheChain, ActingIsAlike, FuelIsAlike, UnitsAreSpent, ItemsAreTaken, PicksAreAlike, PicksAreUsed, StoresChange};
 ghost use Rattle.standing.specs.Replies.{ContextIsRead, ContextIsSet, RepIsRead, HandleIsMade, PressureRises, PressureFalls, PressureIsSet, SetIsMade, WaitableIsJoined, SetIsDropped, SubtaskIsDropped};
 ghost use Rattle.standing.specs.Rows.{CallIsTaken, TaskGoesOn, ActingGoesOn, TaskEnds, TaskExits, TaskYields};
+ghost use Rattle.standing.specs.KeptMarks.{FirstIsMarked, GatesAreKept, WaitersAreCounted, LendsAreCounted, BorrowsAreCounted, WhoWaitsIsKept};
+ghost use Rattle.standing.specs.MarksKept.{SetsKeepMarks, SubtasksKeepMarks, CallsKeepMarks, HandlesKeepMarks, ContextKeepsMarks, PressureKeepsMarks, TasksKeepMarks, EndsKeepMarks};
 ghost use Rattle.standing.specs.Marks.{StatesChange, StatesAreMade, NewIsMarked, StatesRise, StatesStay, BlockedStays, GoingStays, TellingStays, KeepingStays, AwaitingStays, EnteredIsStarted, ReturnedIsReturned, CancelledIsCancelled};
 
 /// What is kept before a graph is instantiated stands for the first world.
@@ -97,4 +99,30 @@ pub fn states_marked()
     ensures entered { EnteredIsStarted }
     ensures returned { ReturnedIsReturned }
     ensures cancelled { CancelledIsCancelled }
+{}
+
+/// Where what is kept stands for a world, marks of what is kept alone are what the machine computes of the world: who holds and waits for exclusive entry, how
+/// many tasks wait on a set, how often a handle is lent, how many borrow handles a task has, and who waits directly for a subtask. Before a graph is
+/// instantiated they are right.
+pub fn marks_count()
+    ensures first { FirstIsMarked }
+    ensures gates { GatesAreKept }
+    ensures waiters { WaitersAreCounted }
+    ensures lends { LendsAreCounted }
+    ensures borrows { BorrowsAreCounted }
+    ensures awaited { WhoWaitsIsKept }
+{}
+
+/// Built-ins leave the marks of gates and of sets as they follow from the tasks: who holds and waits for entry, and how many tasks wait on each set. Those of
+/// sets and subtasks ask that each set stands at one index, that no task waits where the next entry will stand, that subtasks run functions, and that
+/// the task runs one of the instance.
+pub fn marks_stay()
+    ensures sets { SetsKeepMarks }
+    ensures subtasks { SubtasksKeepMarks }
+    ensures calls { CallsKeepMarks }
+    ensures handles { HandlesKeepMarks }
+    ensures context { ContextKeepsMarks }
+    ensures pressure { PressureKeepsMarks }
+    ensures tasks { TasksKeepMarks }
+    ensures ends { EndsKeepMarks }
 {}

@@ -5,7 +5,8 @@
 //! as plain functions. `specs/Stands` says when what is kept stands for a world, field by field, over `specs/Instances` and `specs/Tasks`.
 //! `specs/Edits` says that each change of what is kept is the change of the world of the same name, `specs/Agreeing` what it means that a part
 //! does what the machine does: the same lines, the same trap, no rule where there is none, and what follows; and `specs/Replies`,
-//! `specs/Rows`, `specs/Moves` and `specs/Callings` that built-ins and tasks do. `specs/Marks` has what is kept beside all that, and follows from it.
+//! `specs/Rows`, `specs/Moves` and `specs/Callings` that built-ins and tasks do. `specs/Marks` has what is kept beside all that, and follows from it,
+//! `specs/KeptMarks` what of it follows from tasks and tables alone, and `specs/MarksKept` that built-ins keep it.
 //!
 //! `specs/Channels` and `specs/Ends` have streams, futures and their built-ins, `specs/Events` and `specs/Waits` events and waitable sets.
 //!
@@ -22,13 +23,14 @@ mod runs;
 
 pub use ends::{channels_stand, ends_agree, ends_marked, events_agree, events_follow};
 pub use laws::{
-    built_ins_agree, changes_stand, first_stands, found_alike, instances_stand, states_marked,
-    tasks_agree,
+    built_ins_agree, changes_stand, first_stands, found_alike, instances_stand, marks_count,
+    marks_stay, states_marked, tasks_agree,
 };
 pub use moves::{
-    arrivals_agree, calls_agree, cancels_agree, resolutions_agree, returns_agree, waits_agree,
+    arrivals_agree, calls_agree, cancels_agree, drops_agree, resolutions_agree, returns_agree,
+    waits_agree,
 };
 pub use runs::{
-    calls_answered, lowerings_lead, nested_runs_lead, parts_join, plans_agree, post_returns_lead,
-    stacks_lead, task_runs_lead,
+    actions_agree, calls_answered, lowerings_lead, nested_runs_lead, parts_join, plans_agree,
+    post_returns_lead, stacks_lead, task_runs_lead,
 };

@@ -3,6 +3,7 @@
 
 ghost use Rattle.standing.specs.Moves.{TaskArrives, EntryResumes, LoopResumes, YieldResumes, SetResumes, CallResumes, CancelResumes, BackFromCall, BackFromCancel};
 ghost use Rattle.standing.specs.Callings.{CallIsBegun};
+ghost use Rattle.standing.specs.HandleDrops.{HandleIsDropped, ResourcesAreSeen};
 ghost use Rattle.standing.specs.Resolutions.{TaskReturns, TaskCancels, EndIsAsked, SubtaskIsAsked};
 
 /// A new task enters, or waits to, as the machine does.
@@ -43,4 +44,11 @@ pub fn resolutions_agree()
 /// `subtask.cancel` does what the machine does: it is refused where the subtask was told to be over, or that was asked before.
 pub fn cancels_agree()
     ensures { SubtaskIsAsked }
+{}
+
+/// `resource.drop` does what the machine does: a handle leaves the table or the call is refused, a borrow handle counts for its task no more, and what an
+/// own handle owned is destroyed, on a further stack or by a call. Resources are told as the graph has them.
+pub fn drops_agree()
+    ensures dropped { HandleIsDropped }
+    ensures seen { ResourcesAreSeen }
 {}

@@ -2,9 +2,10 @@
 //! stacks behind a trap of the task or where fuel is wanting.
 
 ghost use Rattle.standing.specs.InPlace.{ExemptCallsAgree, NestedCallsAgree};
+ghost use Rattle.standing.specs.Instantiates.{ActionIsDone};
 ghost use Rattle.standing.specs.Lowers.{LoweringsLead, RoomStands};
 ghost use Rattle.standing.specs.Nested.{CallsAreMade, NestedRunsLead};
-ghost use Rattle.standing.specs.Plans.{FlatAgrees, PlacedAgrees, StoredAgrees};
+ghost use Rattle.standing.specs.Plans.{FlatAgrees, PlacedAgrees, StoredAgrees, ElementsAgree};
 ghost use Rattle.standing.specs.PostReturns.{NestedCodeLeads, NestedGoOn, PostReturnsLead};
 ghost use Rattle.standing.specs.Reaching.{EndFollows, EndsBehind, MeetsBehind, PartsJoin, StepFollows};
 ghost use Rattle.standing.specs.Runs.{StacksLead};
@@ -67,10 +68,18 @@ pub fn lowerings_lead()
     ensures stands { RoomStands }
 {}
 
-/// The plan along which code lowers a value of its type is that of the machine, as core values, at a new place and at a place, where both take the
-/// same resources as the instance's own: the same places are asked for, the same bytes put, and the same entries made.
+/// The plan along which code lowers a value of its type is that of the machine, as core values, at a new place and at a place, and so is that of
+/// values one after the other behind the test of their place, where both take the same resources as the instance's own: the same places are asked
+/// for, the same bytes put, and the same entries made.
 pub fn plans_agree()
     ensures flat { FlatAgrees }
     ensures placed { PlacedAgrees }
     ensures stored { StoredAgrees }
+    ensures elements { ElementsAgree }
+{}
+
+/// Task 0 makes the next thing of a graph's plan as the machine does, where a rule applies: a component instance begins, or a core instance is made, up to a
+/// segment that does not fit, or up to where its start function runs; and where nothing is left to be made it has done its work.
+pub fn actions_agree()
+    ensures { ActionIsDone }
 {}

@@ -1,0 +1,9 @@
+pub mod Behind
+pub mod Running
+pub mod Hosting
+pub mod Lowering
+pub mod Nested
+pub mod Ways
+pub mod Passed
+pub mod Stepping
+pub mod Ending
