@@ -6,4 +6,5 @@ pub mod Reading
 pub mod Rows
 pub mod RunsOn
 pub mod Sounds
+pub mod Synchronous
 pub mod Taken

@@ -1,5 +1,5 @@
 -- What holds of the definitions alone.
-use Rattle.std.specs.Prelude.{◌≡◌, ◌⊎◌, ℕ, true, List, Option, IfSome, MatchOption}
+use Rattle.std.specs.Prelude.{◌≡◌, ◌⊎◌, ℕ, true, List, [], Option, IfSome, MatchOption}
 use Rattle.comp_tree.specs.declared.items.Component.{Component}
 use Rattle.comp_reader.specs.Binary.{IsComponent}
 use Rattle.script_reader.specs.Script.{Script, IsScript}
@@ -9,6 +9,7 @@ use Rattle.wcm.specs.declared.status.Status.TheVariants.{Refused, LinkRefused}
 use Rattle.comp_graph.specs.Graph.{Graph}
 use Rattle.link_spec.specs.Linked.{IsLinked}
 use Rattle.canonical_machine.specs.Sound.{AreBytes, IsSound}
+use Rattle.canonical_machine.specs.Plain.{IsPlain}
 use Rattle.wcm.specs.Answers.{Answers}
 use Rattle.wcm.specs.Causes.{HasCause}
 use Rattle.wcm.specs.Files.{IsComponentTold, IsTold, IsSynchronous}
@@ -21,6 +22,10 @@ abbrev pub ScriptsAreSound : Type 0
 ScriptsAreSound =
     (bytes text : List ℕ) (c : Component) (g : Graph) (script : Script)
     → AreBytes bytes → IsComponent bytes c → IsLinked c g → is_synchronous g script ≡ true → IsScript g.exports text script → IsSound g script
+
+-- And each sound script that picks nothing, over a graph that passes no handle and no end, is run by that machine.
+abbrev pub SoundScriptsAreSynchronous : Type 0
+SoundScriptsAreSynchronous = (g : Graph) (s : Script) → IsSound g s → IsPlain g → s.picks ≡ [] → is_synchronous g s ≡ true
 
 -- each file that is held is one of bytes
 abbrev pub HoldsBytes : (List ℕ → Option (List ℕ)) → Type 0

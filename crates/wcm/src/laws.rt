@@ -1,6 +1,6 @@
 //! What holds of the definitions alone.
 
-ghost use Rattle.wcm.specs.Laws.{CausesHaveAnswers, OneAnswer, RefusedFilesTellAll, ScriptsAreSound, SomeAnswer, StatusesHaveCauses};
+ghost use Rattle.wcm.specs.Laws.{CausesHaveAnswers, OneAnswer, RefusedFilesTellAll, ScriptsAreSound, SomeAnswer, SoundScriptsAreSynchronous, StatusesHaveCauses};
 
 use canonical_machine::runs_end;
 use comp_reader::one_reading;
@@ -19,6 +19,11 @@ pub fn scripts_are_sound()
     scripts_call_exports();
     calls_are_sound();
 }
+
+/// Each sound script that picks nothing, over a graph that passes no handle and no end, is run by the machine of synchronous calls.
+pub fn sound_scripts_are_synchronous()
+    ensures { SoundScriptsAreSynchronous }
+{}
 
 /// Where the files that words ask for are told, and what runs is synchronous, there is one answer at the most, but for the text for the
 /// error output where the words are no command; and there is one, where the files are of bytes.

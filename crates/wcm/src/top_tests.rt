@@ -230,6 +230,7 @@ fn calls_over_a_long_file(rt: HostRuntime) -> Result<(), Fail> {
 #[test]
 fn laws_hold() {
     laws::scripts_are_sound();
+    laws::sound_scripts_are_synchronous();
     laws::one_answer();
     laws::statuses_have_causes();
     command_words::laws::plain_words_are_taken();
