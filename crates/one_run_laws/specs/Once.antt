@@ -1,6 +1,6 @@
 -- One run (Component Model, Concurrency.md, "Summary"; CanonicalABI.md, "Lifting and Lowering Values"): what passing values comes to is one thing, told
--- by what is passed and by what is kept, though core code runs in its midst, which gives out places. So a program has one run, of what is kept of
--- worlds. Of want of memory nothing is said.
+-- by what is passed and by what is kept, though core code runs in its midst, which gives out places. So a program has at most one run, of what is
+-- kept of worlds. Of want of memory nothing is said.
 use Rattle.std.specs.Prelude.{◌≡◌, List, ◌++◌}
 use Rattle.laid_types.specs.SameTypes.{AreDistinct}
 use Rattle.programs.specs.declared.program.Program.{Program}

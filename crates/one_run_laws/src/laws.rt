@@ -1,4 +1,4 @@
-//! A program has one run.
+//! A program has at most one run.
 
 ghost use Rattle.one_run_laws.specs.Once.{PassingIsOne, RunsAreOne, SoFarAreFronts};
 

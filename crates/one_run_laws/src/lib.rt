@@ -1,7 +1,7 @@
-//! One run of the machine of asynchronous calls, of what is kept of a world (Component Model, Concurrency.md, "Summary"): laws, without a body.
+//! At most one run of the machine of asynchronous calls, of what is kept of a world (Component Model, Concurrency.md, "Summary"): laws, without a body.
 //!
 //! `machine_runs` says what runs over what is kept are, and `value_moves` what passing values may come to in them, where core code runs that gives
-//! out places. `specs/Once` says that this is one thing, and so is a run.
+//! out places. `specs/Once` says that this is one thing, and so is a run where there is one.
 //!
 //! - `laws`: what passing values comes to, and runs
 #![tactic(auto)]

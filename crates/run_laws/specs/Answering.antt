@@ -1,6 +1,6 @@
 -- What canonical functions answer (Component Model, CanonicalABI.md, "Canonical Definitions"): each of them, a built-in or a function that is lowered, does
--- what the machine does, where it is called by the acting task with words that it can read, in a world of which what laws of reached worlds give holds,
--- and where what is kept beside that world is right.
+-- what the machine does, where it is called by the acting task with words that it can read, in a world of which what is
+-- asked here holds (laws of reached worlds give some of it), and where what is kept beside that world is right.
 use Rattle.std.specs.Prelude.{◌≡◌, ◌<◌, ℕ, true, List, Option, Some, IsSome}
 use Rattle.std.specs.List.{slice_get}
 use Rattle.ca_types.specs.declared.types.FuncType.{FuncType}

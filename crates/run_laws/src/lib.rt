@@ -4,9 +4,10 @@
 //! `machine_runs` says what steps and runs over what is kept are, `abi_machine` what those of worlds are, and `standing` when what is kept
 //! stands for a world. `specs/Points` says where both are between the steps of the former, and what it means that a step does what the machine
 //! does; `specs/Dispatch` that calls of canonical functions do, where each function's answer does, `specs/Answering` that each answer does, and
-//! `specs/Turns` that turns do;
-//! `specs/Runs` has runs of core code, `specs/Instantiation` instantiation, `specs/Lowered` lowerings, and `specs/Lifted` liftings, over
-//! `specs/Taking` for one index of a table.
+//! `specs/Turns` that turns do. What of the premises of answers laws of reached worlds give is in `specs/Reached`, and what marks give in
+//! `specs/KeptMarks`. `specs/Runs` has runs of core code, `specs/Instantiation` instantiation, `specs/Lowered` lowerings, and `specs/Lifted`
+//! liftings, over `specs/Taking` for one index of a table; of copies, `specs/Elements` the elements that are lowered, `specs/Copied` those that go
+//! over, `specs/Completed` the end of the call that met an offer, and `specs/Transfers` all of it.
 //!
 //! - `dispatch`: calls of canonical functions
 //! - `lifting`: values that are lifted

@@ -6,7 +6,7 @@
 //! `specs/Edits` says that each change of what is kept is the change of the world of the same name, `specs/Agreeing` what it means that a part
 //! does what the machine does: the same lines, the same trap, no rule where there is none, and what follows; and `specs/Replies`,
 //! `specs/Rows`, `specs/Moves` and `specs/Callings` that built-ins and tasks do. `specs/Marks` has what is kept beside all that, and follows from it,
-//! `specs/KeptMarks` what of it follows from tasks and tables alone, and `specs/MarksKept` that built-ins keep it.
+//! `specs/KeptMarks` what of it follows from tasks and tables alone, and `specs/MarksKept` that built-ins keep that of gates and sets.
 //!
 //! `specs/Channels` and `specs/Ends` have streams, futures and their built-ins, `specs/Events` and `specs/Waits` events and waitable sets.
 //!
