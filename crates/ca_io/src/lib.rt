@@ -4,7 +4,8 @@
 //! whole file by `read_all` and writes a whole part by `write_all`, over any source and any sink.
 //!
 //! - `files` and `reading`: sources of files, and the reading of a whole one; `mem_files`: files in memory
-//! - `sink` and `writing`: sinks of bytes, and the writing of a whole part; `mem_sink`: a sink in memory
+//! - `sink` and `writing`: sinks of bytes, and the writing of a whole part; `mem_sink`: a sink in memory; `null_sink`: one
+//!   that keeps nothing
 //! - `failed`: a read or write that failed
 #![tactic(auto)]
 
@@ -12,6 +13,7 @@ mod failed;
 mod files;
 mod mem_files;
 mod mem_sink;
+mod null_sink;
 mod reading;
 mod sink;
 mod writing;
@@ -20,6 +22,7 @@ pub use failed::Failed;
 pub use files::Files;
 pub use mem_files::MemFiles;
 pub use mem_sink::MemSink;
+pub use null_sink::NullSink;
 pub use reading::{FileError, read_all};
 pub use sink::Sink;
 pub use writing::write_all;

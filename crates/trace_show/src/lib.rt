@@ -6,7 +6,7 @@
 //! - `label`: the lines of a trace; `builtin` and `trap`: the names of built-ins and traps; `typed`: values with types
 //! - `values` and `lines`: the texts of values with types, and of labels
 //! - `dump` and `dump_lines`: what a run leaves in tables and memories, and its text
-//! - `trace`: a trace over a sink
+//! - `trace`: a trace over a sink; `tally`: what is counted of its lines
 #![tactic(auto)]
 
 mod builtin;
@@ -14,6 +14,7 @@ mod dump;
 mod dump_lines;
 mod label;
 mod lines;
+mod tally;
 mod trace;
 mod trap;
 mod typed;
@@ -24,6 +25,7 @@ pub use dump::{Dump, EndState, Entry, LiveEntry, Side};
 pub use dump_lines::dump_text;
 pub use label::{BlockReason, Channel, Copied, Label};
 pub use lines::label_text;
+pub use tally::lines_are_counted;
 pub use trace::{ROOM, Trace};
 pub use trap::TrapName;
 pub use typed::{TypedValue, TypedValues};

@@ -2,7 +2,7 @@
 
 use crate::lines::{block_answer, label_answer};
 use crate::name_tables::{builtin_answer, trap_answer};
-use crate::traces::put_answer;
+use crate::traces::{put_answer, tally_answer};
 use crate::values::{copy_answer, return_answer, take_answer};
 use cases::Steps;
 use std::alloc::Global;
@@ -19,6 +19,7 @@ pub enum Kind {
     Return,
     Copy,
     Put,
+    Tally,
 }
 
 /// The kind of tables that a word names.
@@ -32,6 +33,7 @@ fn kind_of(word: &str) -> Option<Kind> {
         "return" => Some(Kind::Return),
         "copy" => Some(Kind::Copy),
         "put" => Some(Kind::Put),
+        "tally" => Some(Kind::Tally),
         _ => None,
     }
 }
@@ -47,6 +49,7 @@ fn answer(alloc: Global, kind: Kind, line: &str) -> Result<String, Fail> {
         Kind::Return => return_answer(alloc, line),
         Kind::Copy => copy_answer(alloc, line),
         Kind::Put => put_answer(alloc, line),
+        Kind::Tally => tally_answer(alloc, line),
     }
 }
 

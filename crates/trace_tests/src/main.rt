@@ -11,6 +11,8 @@
 //! - `put`: how many lines of deadlocks are put to a trace, how many tasks each names (a line has 9 bytes, and 3 more for each
 //!   task), and the number of the write that fails (0: none does). Wanted are the room of a trace, how many lines are put before
 //!   a put fails, how the last put ends, and how many bytes the sink took before any flush
+//! - `tally`: the lines that are put to a trace over a sink that keeps nothing, with a plus between them: elements that hold nothing, a
+//!   deadlock of so many tasks, the end, or the type of elements, with a bar behind it, and the elements. Wanted is what the trace counts
 //!
 //! The others have other marks:
 //!

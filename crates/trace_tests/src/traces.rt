@@ -4,20 +4,22 @@ ghost use Rattle.std.specs.Prelude.{◌≡◌, OnOk};
 ghost use Rattle.ca_io.specs.Bytes.{grown};
 ghost use Rattle.trace_show.specs.LabelText.{label_text};
 
+use crate::values::of_one_type;
 use ca_base::{Memory, MemoryOr, Seq};
-use ca_io::{Failed, MemSink, Sink};
+use ca_io::{Failed, MemSink, NullSink, Sink};
 use cases::Answers;
 use std::alloc::{AllocError, Global};
 use std::str::from_utf8;
 use std::test::Fail;
-use trace_show::{Label, ROOM, Trace};
+use trace_show::{Channel, Copied, Label, ROOM, Trace};
 
 /// Writes a label's line to a sink. That the sink took it all, and nothing else, follows from the clauses of a trace.
 fn write_label<K: Sink>(alloc: Global, label: &Label, sink: &mut K) -> Result<(), MemoryOr<Failed>>
     ensures { OnOk result (K.taken sink.new ≡ grown (K.taken sink.old) (label_text label.now)) }
 {
     let mut kept = Vec::new(alloc);
-    let mut trace = Trace::new(sink, &mut kept);
+    let mut last = Vec::new(alloc);
+    let mut trace = Trace::new(sink, &mut kept, &mut last);
     trace.put(alloc, label)?;
     match trace.flush() {
         Ok(()) => Ok(()),
@@ -61,7 +63,8 @@ fn write_to<K: Sink>(alloc: Global, what: &str, sink: &mut K) -> Result<(), Memo
         return write_label(alloc, &Label::Fuel, sink);
     }
     let mut kept = Vec::new(alloc);
-    run_to(alloc, &mut Trace::new(sink, &mut kept))
+    let mut last = Vec::new(alloc);
+    run_to(alloc, &mut Trace::new(sink, &mut kept, &mut last))
 }
 
 /// How calls end, and what a sink took, with semicolons in place of line feeds.
@@ -133,7 +136,9 @@ fn counts_told(
 /// How the putting of a line to a sink, so many times, ends.
 fn puts_told(alloc: Global, label: &Label, times: u32, mut sink: MemSink) -> Result<String, Fail> {
     let mut kept = Vec::new(alloc);
-    let (put, last) = put_often(alloc, &mut Trace::new(&mut sink, &mut kept), label, times);
+    let mut line = Vec::new(alloc);
+    let mut trace = Trace::new(&mut sink, &mut kept, &mut line);
+    let (put, last) = put_often(alloc, &mut trace, label, times);
     Ok(counts_told(alloc, put, last, sink.taken().len())?)
 }
 
@@ -144,4 +149,51 @@ pub fn put_answer(alloc: Global, given: &str) -> Result<String, Fail> {
     let label = deadlock_of(alloc, tasks.parse()?)?;
     let sink = sink_of(alloc, 200_000, 200_000, failing.parse()?)?;
     puts_told(alloc, &label, times.parse()?, sink)
+}
+
+/// The label of elements that are copied from stream 1.
+fn copied(copied: Copied) -> Label {
+    let channel = Channel::Stream(1);
+    Label::Copy { channel, copied }
+}
+
+/// The label of a text: elements that hold nothing, with how many; a deadlock, with of how many tasks; the end; or elements of
+/// one type.
+fn label_in(alloc: Global, text: &str) -> Result<Label, Fail> {
+    match text.split_once(' ') {
+        Some(("units", count)) => Ok(copied(Copied::Units(count.parse()?))),
+        Some(("deadlock", tasks)) => Ok(deadlock_of(alloc, tasks.parse()?)?),
+        Some(_) => Ok(copied(Copied::Values(of_one_type(alloc, text)?))),
+        None => Ok(Label::Done),
+    }
+}
+
+/// Puts the labels of a text, with a plus between them.
+fn put_each(alloc: Global, trace: &mut Trace<'_, NullSink>, text: &str) -> Result<(), Fail> {
+    for part in text.split(" + ") {
+        let label = label_in(alloc, part)?;
+        if put(alloc, trace, &label).is_err() {
+            return Err(Fail::new("a line was not put"));
+        }
+    }
+    Ok(())
+}
+
+/// What a trace tells that counted lines.
+fn counts_of(alloc: Global, trace: &Trace<'_, NullSink>) -> Result<String, Fail> {
+    let (elements, sum) = (trace.elements(), trace.sum());
+    let last = from_utf8(trace.last())?;
+    Ok(format!(in alloc; "{elements} elements, sum {sum}, last {last}")?)
+}
+
+/// What a trace tells of the labels of a text, when all was written.
+pub fn tally_answer(alloc: Global, given: &str) -> Result<String, Fail> {
+    let (mut kept, mut last) = (Vec::new(alloc), Vec::new(alloc));
+    let mut sink = NullSink;
+    let mut trace = Trace::new(&mut sink, &mut kept, &mut last);
+    put_each(alloc, &mut trace, given)?;
+    if flush(&mut trace).is_err() {
+        return Err(Fail::new("a trace was not written"));
+    }
+    counts_of(alloc, &trace)
 }

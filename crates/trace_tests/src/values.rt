@@ -72,7 +72,7 @@ fn are_of(values: &[Value], val_type: &ValType) -> bool {
 }
 
 /// Values of one type.
-fn of_one_type(alloc: Global, text: &str) -> Result<TypedValues, Fail> {
+pub fn of_one_type(alloc: Global, text: &str) -> Result<TypedValues, Fail> {
     let (val_type, values) = text.split_once('|').ok_or("no values")?;
     let val_type = type_of(alloc, val_type)?;
     let values = Seq::from_vec(values_of(alloc, values)?);
