@@ -1,10 +1,10 @@
 -- Runs whose trace goes out as they go.
-use Rattle.std.proofs.Common.{◌≡◌, ◌<◌, ◌+◌, arith, slice_index_or, ℕ, zero, suc, List, [], ◌∷◌, ◌++◌, length, take, drop, refl, sym, ap, ◌∙◌, subst, append_assoc, append-nil, Option, Some, None, Result, Ok, Err, OnOk, OnErr, ◌⊎◌, inl, inr, Bool}
+use Rattle.std.proofs.Common.{◌≡◌, ◌<◌, ◌≤◌, ◌+◌, arith, slice_index_or, ℕ, zero, suc, List, [], ◌∷◌, ◌++◌, length, length-append, take, drop, refl, sym, ap, ◌∙◌, subst, append_assoc, append-nil, Option, Some, None, Result, Ok, Err, OnOk, OnErr, ◌⊎◌, inl, inr, Bool}
 use Rattle.std.proofs.lemmas.Grind.{flat_map-append}
 use Rattle.std.proofs.Math.Seq.{take-append-add, take-length}
 use Rattle.std.specs.Option.{option_map}
 use Rattle.ca_base.specs.declared.memory.MemoryOr.{MemoryOr}
-use Rattle.ca_base.specs.declared.memory.MemoryOr.TheVariants.{Memory}
+use Rattle.ca_base.specs.declared.memory.MemoryOr.TheVariants as or
 use Rattle.ca_io.specs.Bytes.{grown, TookFront}
 use Rattle.programs.specs.declared.program.Program.{Program}
 use Rattle.trace_show.specs.declared.label.Label.{Label}
@@ -22,11 +22,14 @@ use Rattle.machine_runs.specs.declared.stepping.Step.{Step}
 use Rattle.machine_runs.specs.declared.stepping.Step.TheVariants as step
 use Rattle.machine_runs.specs.declared.ending.RunEnd.{RunEnd}
 use Rattle.machine_runs.specs.declared.ending.LastLine.{LastLine}
+use Rattle.machine_runs.specs.declared.fault.RunFault.{RunFault}
+use Rattle.machine_runs.specs.declared.fault.RunFault.TheVariants as fault
 use Rattle.machine_runs.specs.declared.running_script.Ran.{Ran}
 use Rattle.machine_runs.specs.Leading.{LeadsToOne}
 use Rattle.machine_runs.specs.Moving.{acting_of}
-use Rattle.machine_runs.specs.Worlds.{Point, StepsOn, StepsTo, StepGives, free_line, trap_line, fuel_line, last_line, kept_behind, with_last, handed_on, Goes, GoOn, Reached}
-use Rattle.machine_runs.specs.Playing.{Took, Puts, TellsAll, Plays, PlaysOn, ScriptRuns}
+use Rattle.machine_runs.specs.Worlds.{Point, StepsOn, StepsTo, StepGives, free_line, trap_line, fuel_line, last_line, kept_behind, with_last, handed_on, Goes, GoOn, Reached, most_steps}
+use Rattle.machine_runs.specs.Beyond.{IsLost, StepIsLost, IsBeyond}
+use Rattle.machine_runs.specs.Playing.{Took, Grew, Puts, TellsAll, put_fault, StepComes, StepStops, Plays, StopsOn, IsLostOn, PlaysOn, WorldRuns, ScriptRuns, HasRunCause}
 
 -- Texts that go out one behind the other.
 pub grown_twice : (s : Option (List ℕ)) (a b : List ℕ) → grown (grown s a) b ≡ grown s (a ++ b)
@@ -82,6 +85,60 @@ pub flush_fails : (before mid taken : Option (List ℕ)) (kept held line : List 
     → Took taken (grown (put_so_far before kept) line)
 flush_fails before mid taken kept held line e h = subst (Took taken) e (took_kept mid taken held h)
 
+-- What was taken grew.
+pub grew_none : (s : Option (List ℕ)) → Grew s s
+grew_none s = ([], sym (grown_none s))
+
+pub grew_then : (s t u : Option (List ℕ)) → Grew s t → Grew t u → Grew s u
+grew_then s t u h k = (h.0 ++ k.0, k.1 ∙ ap (λ (o : Option (List ℕ)). grown o k.0) h.1 ∙ grown_twice s h.0 k.0)
+
+pub grew_front : (before now : Option (List ℕ)) (text : List ℕ) → TookFront before now text → Grew before now
+grew_front before now text h = (take h.0 text, h.1)
+
+tails : (x y : ℕ) (xs ys : List ℕ) → x ∷ xs ≡ y ∷ ys → xs ≡ ys
+tails x y xs ys e = cc
+
+heads : (x y : ℕ) (xs ys : List ℕ) → x ∷ xs ≡ y ∷ ys → x ≡ y
+heads x y xs ys e = cc
+
+some_inj : (xs ys : List ℕ) → ◌≡◌ {A = Option (List ℕ)} (Some xs) (Some ys) → xs ≡ ys
+some_inj xs ys e = cc
+
+-- A longer front of one text goes on behind a shorter one.
+longer : (t u xs ys : List ℕ) → u ++ ys ≡ t ++ xs → length t ≤ length u → (more : List ℕ) × (u ≡ t ++ more)
+longer [] u xs ys e h = (u, refl)
+longer (x ∷ t) [] xs ys e h = absurd (omega (arith, h))
+longer (x ∷ t) (y ∷ u) xs ys e h =
+    let rest = longer t u xs ys (tails y x (u ++ ys) (t ++ xs) e) (omega (arith, h)) in
+    (rest.0, ap (λ (z : ℕ). z ∷ u) (heads y x (u ++ ys) (t ++ xs) e) ∙ ap (λ (us : List ℕ). x ∷ us) rest.1)
+
+-- Whole rooms were taken.
+pub grew_put : (start taken : Option (List ℕ)) (kept held line : List ℕ) (rooms : ℕ) → put_so_far taken held ≡ grown (put_so_far start kept) line
+    → length held + rooms ≡ length kept + length line → Grew start taken
+grew_put None None kept held line rooms e h = ([], refl)
+grew_put None (Some u) kept held line rooms e h = cc
+grew_put (Some t) None kept held line rooms e h = cc
+grew_put (Some t) (Some u) kept held line rooms e h =
+    let same : u ++ held ≡ t ++ (kept ++ line) = some_inj (u ++ held) ((t ++ kept) ++ line) e ∙ append_assoc t kept line in
+    let long : length u + length held ≡ length t + (length kept + length line) =
+    sym (length-append u held) ∙ ap length same ∙ length-append t (kept ++ line) ∙ ap (λ (n : ℕ). length t + n) (length-append kept line) in
+    let more = longer t u (kept ++ line) held same (omega (arith, long, h)) in
+    (more.0, ap (λ (us : List ℕ). Some us) more.1)
+
+-- What was taken is a front of what stood there with a text behind, and grew: so it grew by a front of that text.
+behind_front : (t more xs : List ℕ) (n : ℕ) → take n (t ++ xs) ≡ t ++ more → (k : ℕ) × (more ≡ take k xs)
+behind_front [] more xs n e = (n, sym e)
+behind_front (x ∷ t) more xs zero e = cc
+behind_front (x ∷ t) more xs (suc n) e = behind_front t more xs n (tails x x (take n (t ++ xs)) (t ++ more) e)
+
+pub front_of : (start taken : Option (List ℕ)) (kept text : List ℕ) → Took taken (grown (put_so_far start kept) text) → Grew start taken → TookFront start taken (kept ++ text)
+front_of None taken kept text h g = (0, g.1)
+front_of (Some t) taken kept text h g =
+    let both : ◌≡◌ {A = Option (List ℕ)} (Some (take h.0 ((t ++ kept) ++ text))) (Some (t ++ g.0)) = sym h.1 ∙ g.1 in
+    let same : take h.0 (t ++ (kept ++ text)) ≡ t ++ g.0 = ap (take h.0) (sym (append_assoc t kept text)) ∙ some_inj (take h.0 ((t ++ kept) ++ text)) (t ++ g.0) both in
+    let k = behind_front t g.0 (kept ++ text) h.0 same in
+    (k.0, g.1 ∙ ap (λ (m : List ℕ). Some (t ++ m)) k.1)
+
 -- Lines that are put, one behind the other: the text of the others is to follow.
 pub line_at : (lines : List Label) (k : ℕ) (line : Label) → k < length lines → line ≡ slice_index_or lines k line → drop k lines ≡ line ∷ drop (suc k) lines
 line_at [] k line h e = absurd (omega (arith, h))
@@ -123,6 +180,10 @@ told_last before lines last (Ok done) mid so_far taken e h f = h ∙ ap (λ (s :
 told_last before lines last (Err x) mid so_far taken e h f =
     subst (Took taken) (ap (λ (s : Option (List ℕ)). grown s (label_text last.line)) e ∙ text_last before lines last.line) f
 
+none_acts : (why : TrapName) (o : Option ℕ) → trap_line why o ≡ None → o ≡ None
+none_acts why None e = refl
+none_acts why (Some t) e = cc
+
 module _ (R : Program → Passing → Held → Done Flow → Type 0) (p : Program) (a : Point) where
   -- What a step came to.
   pub next_goes : (x : Passing) (new : Parts) (piles : List PileView) → LeadsToOne (StepsTo R p a) (Ok (step.GoesOn x)) new piles
@@ -143,25 +204,52 @@ module _ (R : Program → Passing → Held → Done Flow → Type 0) (p : Progra
   next_wants b new piles last m e same =
       (m.0, m.1, ap last_line m.2 ∙ ap (λ (l : LastLine). Some l) (sym e), ap kept_behind m.2 ∙ ap (λ (h : Held). Some h) (sym same))
 
-  -- A step, with its lines.
-  pub plays_none : {E : Type 0} (taken : Option (List ℕ)) (kept : List ℕ) (c : Point) (e : MemoryOr E) (so_far : Option (List ℕ))
-      → (let r : Result (Option RunEnd) (MemoryOr E) = Err e in Plays R p a (put_so_far taken kept) r c so_far taken)
-  plays_none taken kept c e so_far = ([], inl refl, took_more taken (put_so_far taken kept) [] (took_so_far taken kept))
+  pub next_lost : (new : Parts) (piles : List PileView) → (let r : Result Step Stop = Err stop.Stuck in LeadsToOne (StepsTo R p a) r new piles) → StepIsLost R p a
+  next_lost new piles m = (m.0, m.1, subst IsLost (sym m.2) tt)
 
-  pub plays_end : {E : Type 0} (before : Option (List ℕ)) (lines : List Label) (last : Option LastLine) (b c : Point) (e : MemoryOr E) (mid so_far taken : Option (List ℕ)) → StepGives R p a last b
-      → lines ≡ b.held.labels → (let r : Result (Unit {0}) (MemoryOr E) = Err e in TellsAll before lines last r mid taken)
-      → (let r : Result (Option RunEnd) (MemoryOr E) = Err e in Plays R p a before r c so_far taken)
-  plays_end before lines None b c e mid so_far taken g is t = (lines, inr (None, b, g, is), t)
-  plays_end before lines (Some last) b c e mid so_far taken g is t =
+  pub next_lost_trap : (why : TrapName) (new : Parts) (piles : List PileView) → (let r : Result Step Stop = Err (stop.Trap why) in LeadsToOne (StepsTo R p a) r new piles)
+      → trap_line why (acting_of (held new)) ≡ None → StepIsLost R p a
+  next_lost_trap why new piles m e = (m.0, m.1, subst IsLost (sym m.2) (none_acts why (acting_of (held new)) e))
+
+  -- A step, with its lines.
+  pub plays_none : (taken : Option (List ℕ)) (kept : List ℕ) (b c : Point) (e : RunFault) (so_far : Option (List ℕ))
+      → (let r : Result (Option LastLine) RunFault = Err e in StepComes R p a r b) → (let r : Result (Option RunEnd) RunFault = Err e in Plays R p a (put_so_far taken kept) r c so_far taken)
+  plays_none taken kept b c fault.Write so_far h = absurd h
+  plays_none taken kept b c fault.Memory so_far h = ([], inl refl, took_more taken (put_so_far taken kept) [] (took_so_far taken kept))
+  plays_none taken kept b c fault.Beyond so_far h = (h, took_so_far taken kept)
+
+  pub none_caused : (n : ℕ) (b : Point) (e : RunFault) → (let r : Result (Option LastLine) RunFault = Err e in StepComes R p a r b)
+      → (let r : Result (Option RunEnd) RunFault = Err e in HasRunCause n n r)
+  none_caused n b fault.Write h = absurd h
+  none_caused n b fault.Memory h = record { later = omega arith; told = refl }
+  none_caused n b fault.Beyond h = record { later = omega arith; told = refl }
+
+  told_stops : {E : Type 0} (before : Option (List ℕ)) (lines : List Label) (last : Option LastLine) (b : Point) (e : MemoryOr E) (mid taken : Option (List ℕ)) → StepGives R p a last b
+      → lines ≡ b.held.labels → (let r : Result (Unit {0}) (MemoryOr E) = Err e in TellsAll before lines last r mid taken) → StepStops R p a before taken
+  told_stops before lines None b e mid taken g is t = (lines, inr (None, b, g, is), t)
+  told_stops before lines (Some last) b e mid taken g is t =
       (with_last lines (Some last), inr (Some last, b, g, ap (λ (ls : List Label). with_last ls (Some last)) is), t)
 
+  put_stops : {E : Type 0} (before : Option (List ℕ)) (e : MemoryOr E) (c : Point) (so_far taken : Option (List ℕ)) → StepStops R p a before taken
+      → (let r : Result (Option RunEnd) RunFault = Err (put_fault e) in Plays R p a before r c so_far taken)
+  put_stops before or.Memory c so_far taken h = h
+  put_stops before (or.Fault f) c so_far taken h = h
+
+  pub plays_end : {E : Type 0} (before : Option (List ℕ)) (lines : List Label) (last : Option LastLine) (b c : Point) (e : MemoryOr E) (x : RunFault) (mid so_far taken : Option (List ℕ))
+      → StepGives R p a last b → lines ≡ b.held.labels → (let r : Result (Unit {0}) (MemoryOr E) = Err e in TellsAll before lines last r mid taken) → x ≡ put_fault e
+      → (let r : Result (Option RunEnd) RunFault = Err x in Plays R p a before r c so_far taken)
+  plays_end before lines last b c e x mid so_far taken g is t same =
+      subst (λ (y : RunFault). let r : Result (Option RunEnd) RunFault = Err y in Plays R p a before r c so_far taken) (sym same)
+      (put_stops before e c so_far taken (told_stops before lines last b e mid taken g is t))
+
   pub plays_ok : (E : Type 0) (before : Option (List ℕ)) (lines : List Label) (last : Option LastLine) (b c : Point) (o : Option RunEnd) (so_far taken : Option (List ℕ)) → StepGives R p a last b
-      → lines ≡ b.held.labels → c ≡ handed_on b → o ≡ option_map (λ (l : LastLine). l.end) last → (let r : Result (Unit {0}) (MemoryOr E) = Ok tt in TellsAll before lines last r so_far taken)
-      → (let r : Result (Option RunEnd) (MemoryOr E) = Ok o in Plays R p a before r c so_far taken)
+      → lines ≡ b.held.labels → c ≡ handed_on b → o ≡ option_map (λ (l : LastLine). l.end) last
+      → (let r : Result (Unit {0}) (MemoryOr E) = Ok tt in TellsAll before lines last r so_far taken)
+      → (let r : Result (Option RunEnd) RunFault = Ok o in Plays R p a before r c so_far taken)
   plays_ok E before lines None b c o so_far taken g e same is t =
-      subst (λ (x : Option RunEnd). let r : Result (Option RunEnd) (MemoryOr E) = Ok x in Plays R p a before r c so_far taken) (sym is) (lines, (b, g, e, same), t)
+      subst (λ (x : Option RunEnd). let r : Result (Option RunEnd) RunFault = Ok x in Plays R p a before r c so_far taken) (sym is) (lines, (b, g, e, same), t)
   plays_ok E before lines (Some last) b c o so_far taken g e same is t =
-      subst (λ (x : Option RunEnd). let r : Result (Option RunEnd) (MemoryOr E) = Ok x in Plays R p a before r c so_far taken) (sym is)
+      subst (λ (x : Option RunEnd). let r : Result (Option RunEnd) RunFault = Ok x in Plays R p a before r c so_far taken) (sym is)
       (with_last lines (Some last), (last, b, g, refl, ap (λ (ls : List Label). with_last ls (Some last)) e, ap (λ (q : Point). q.held) same), t)
 
   -- Steps behind steps.
@@ -183,43 +271,71 @@ module _ (R : Program → Passing → Held → Done Flow → Type 0) (p : Progra
       let one : suc count ≡ count + 1 = omega arith in
       subst (λ (n : ℕ). GoOn R p n a (before ++ more) c) one (b, before, more, h, g, refl)
 
-  pub on_more : (E : Type 0) (count : ℕ) (start mid so_far taken : Option (List ℕ)) (b c : Point) (o : Option RunEnd) → At count start mid b → o ≡ None
-      → (let r : Result (Option RunEnd) (MemoryOr E) = Ok o in Plays R p b mid r c so_far taken) → At (count + 1) start so_far c
-  on_more E count start mid so_far taken b c o at is t =
-      let u : (let r : Result (Option RunEnd) (MemoryOr E) = Ok None in Plays R p b mid r c so_far taken)
-      = subst (λ (x : Option RunEnd). let r : Result (Option RunEnd) (MemoryOr E) = Ok x in Plays R p b mid r c so_far taken) is t in
+  pub on_more : (count : ℕ) (start mid so_far taken : Option (List ℕ)) (b c : Point) (o : Option RunEnd) → At count start mid b → o ≡ None
+      → (let r : Result (Option RunEnd) RunFault = Ok o in Plays R p b mid r c so_far taken) → At (count + 1) start so_far c
+  on_more count start mid so_far taken b c o at is t =
+      let u : (let r : Result (Option RunEnd) RunFault = Ok None in Plays R p b mid r c so_far taken)
+      = subst (λ (x : Option RunEnd). let r : Result (Option RunEnd) RunFault = Ok x in Plays R p b mid r c so_far taken) is t in
       (at.0 ++ u.0, one_more count at.0 u.0 b c at.1 u.1, u.2 ∙ ap (λ (s : Option (List ℕ)). grown s (trace_text u.0)) at.2 ∙ text_more start at.0 u.0)
 
-  pub on_ends : (E : Type 0) (count : ℕ) (start mid so_far taken : Option (List ℕ)) (b c : Point) (end : RunEnd) (o : Option RunEnd) → At count start mid b → o ≡ Some end
-      → (let r : Result (Option RunEnd) (MemoryOr E) = Ok o in Plays R p b mid r c so_far taken) → (let r : Result RunEnd (MemoryOr E) = Ok end in PlaysOn R p a start r c taken)
-  on_ends E count start mid so_far taken b c end o at is t =
-      let u : (let r : Result (Option RunEnd) (MemoryOr E) = Ok (Some end) in Plays R p b mid r c so_far taken)
-      = subst (λ (x : Option RunEnd). let r : Result (Option RunEnd) (MemoryOr E) = Ok x in Plays R p b mid r c so_far taken) is t in (
+  pub on_ends : (count : ℕ) (start mid so_far taken : Option (List ℕ)) (b c : Point) (end : RunEnd) (o : Option RunEnd) → At count start mid b → o ≡ Some end
+      → (let r : Result (Option RunEnd) RunFault = Ok o in Plays R p b mid r c so_far taken) → (let r : Result RunEnd RunFault = Ok end in PlaysOn R p a start r c taken)
+  on_ends count start mid so_far taken b c end o at is t =
+      let u : (let r : Result (Option RunEnd) RunFault = Ok (Some end) in Plays R p b mid r c so_far taken)
+      = subst (λ (x : Option RunEnd). let r : Result (Option RunEnd) RunFault = Ok x in Plays R p b mid r c so_far taken) is t in (
         at.0 ++ u.0,
         record { before = at.0; last = b; more = u.0; goes = reached_by count at.0 b at.1; ends = u.1; lines_are = refl },
         u.2 ∙ ap (λ (s : Option (List ℕ)). grown s (trace_text u.0)) at.2 ∙ text_more start at.0 u.0,
       )
 
-  pub on_fails : {E : Type 0} (count : ℕ) (start mid so_far taken : Option (List ℕ)) (b c : Point) (x : MemoryOr E) → At count start mid b
-      → (let r : Result (Option RunEnd) (MemoryOr E) = Err x in Plays R p b mid r c so_far taken) → (let r : Result RunEnd (MemoryOr E) = Err x in PlaysOn R p a start r c taken)
-  on_fails count start mid so_far taken b c x at (lines, inl none, t) =
+  stops_on : (count : ℕ) (start mid taken : Option (List ℕ)) (b : Point) → At count start mid b → StepStops R p b mid taken → StopsOn R p a start taken
+  stops_on count start mid taken b at (lines, inl none, t) =
       (at.0, inl (b, reached_by count at.0 b at.1), subst (Took taken) (ap (λ (ls : List Label). grown mid (trace_text ls)) none ∙ grown_none mid ∙ at.2) t)
-  on_fails count start mid so_far taken b c x at (lines, inr told, t) =
+  stops_on count start mid taken b at (lines, inr told, t) =
       (at.0 ++ lines, inr (b, at.0, lines, reached_by count at.0 b at.1, told, refl), subst (Took taken) (ap (λ (s : Option (List ℕ)). grown s (trace_text lines)) at.2 ∙ text_more start at.0 lines) t)
 
-  pub on_out : (E : Type 0) (count : ℕ) (start taken : Option (List ℕ)) (kept : List ℕ) (b : Point) → At count start (put_so_far taken kept) b
-      → (let r : Result RunEnd (MemoryOr E) = Err Memory in PlaysOn R p a start r b taken)
-  on_out E count start taken kept b at = (at.0, inl (b, reached_by count at.0 b at.1), subst (Took taken) at.2 (took_so_far taken kept))
+  pub on_fails : (count : ℕ) (start mid so_far taken : Option (List ℕ)) (b c : Point) (x : RunFault) → At count start mid b
+      → (let r : Result (Option RunEnd) RunFault = Err x in Plays R p b mid r c so_far taken) → (let r : Result RunEnd RunFault = Err x in PlaysOn R p a start r c taken)
+  on_fails count start mid so_far taken b c fault.Write at h = stops_on count start mid taken b at h
+  on_fails count start mid so_far taken b c fault.Memory at h = stops_on count start mid taken b at h
+  on_fails count start mid so_far taken b c fault.Beyond at h =
+      (at.0, record { count = count; last = b; steps = at.1; behind = inl h.0 }, subst (Took taken) at.2 h.1)
+
+  pub on_out : (count : ℕ) (start taken : Option (List ℕ)) (kept : List ℕ) (b : Point) → At count start (put_so_far taken kept) b → count ≡ most_steps
+      → (let r : Result RunEnd RunFault = Err fault.Beyond in PlaysOn R p a start r b taken)
+  on_out count start taken kept b at e =
+      (at.0, record { count = count; last = b; steps = at.1; behind = inr e }, subst (Took taken) at.2 (took_so_far taken kept))
 
   -- A run that came to its end, of which no dump is made; and one that did not begin.
-  pub no_dump : {E : Type 0} (start taken : Option (List ℕ)) (b : Point) (end : RunEnd) (dumps : Bool) (e : MemoryOr E)
-      → (let r : Result RunEnd (MemoryOr E) = Ok end in PlaysOn R p a start r b taken) → (let r : Result Ran (MemoryOr E) = Err e in ScriptRuns R p a dumps start r taken)
-  no_dump start taken b end dumps e h =
+  pub no_dump : (start taken : Option (List ℕ)) (b : Point) (end : RunEnd) (dumps : Bool)
+      → (let r : Result RunEnd RunFault = Ok end in PlaysOn R p a start r b taken) → (let r : Result Ran RunFault = Err fault.Memory in WorldRuns R p a dumps start r taken)
+  no_dump start taken b end dumps h =
       (h.0, inr (h.1.last, h.1.before, h.1.more, h.1.goes, (Some h.1.ends.0, h.1.ends.1, h.1.ends.2, h.1.ends.4), h.1.lines_are), took_all taken (grown start (trace_text h.0)) h.2)
 
-  pub no_world : {E : Type 0} (taken : Option (List ℕ)) (kept : List ℕ) (dumps : Bool) (e : MemoryOr E)
-      → (let r : Result Ran (MemoryOr E) = Err e in ScriptRuns R p a dumps (put_so_far taken kept) r taken)
-  no_world taken kept dumps e = ([], inl (a, reached_none), took_more taken (put_so_far taken kept) [] (took_so_far taken kept))
+  pub world_ends : (start taken : Option (List ℕ)) (b : Point) (dumps : Bool) (e : RunFault) → (let r : Result RunEnd RunFault = Err e in PlaysOn R p a start r b taken)
+      → (let r : Result Ran RunFault = Err e in WorldRuns R p a dumps start r taken)
+  world_ends start taken b dumps fault.Write h = h
+  world_ends start taken b dumps fault.Memory h = h
+  world_ends start taken b dumps fault.Beyond h = h
+
+  pub no_world : (taken : Option (List ℕ)) (kept : List ℕ) (dumps : Bool) → (let r : Result Ran RunFault = Err fault.Memory in ScriptRuns R p a dumps taken kept r taken)
+  no_world taken kept dumps = ([], inl (a, reached_none), (0, sym (grown_none taken)))
+
+  -- What went out is told behind what the sink had taken.
+  pub script_runs : (dumps : Bool) (start taken : Option (List ℕ)) (kept : List ℕ) (r : Result Ran RunFault) → WorldRuns R p a dumps (put_so_far start kept) r taken → Grew start taken
+      → ScriptRuns R p a dumps start kept r taken
+  script_runs dumps start taken kept (Ok ran) h g = (h.0, h.1, h.2, h.3 ∙ grown_twice start kept (trace_text h.0), h.4)
+  script_runs dumps start taken kept (Err fault.Write) h g = (h.0, h.1, front_of start taken kept (trace_text h.0) h.2 g)
+  script_runs dumps start taken kept (Err fault.Memory) h g = (h.0, h.1, front_of start taken kept (trace_text h.0) h.2 g)
+  script_runs dumps start taken kept (Err fault.Beyond) h g = (h.0, h.1, front_of start taken kept (trace_text h.0) h.2 g)
+
+-- Causes of what ends a step are those of what was put.
+pub put_caused : {E : Type 0} (before now : ℕ) (e : MemoryOr E) (x : RunFault) → (let r : Result (Unit {0}) (MemoryOr E) = Err e in HasPutCause before now r) → x ≡ put_fault e
+    → (let r : Result (Option RunEnd) RunFault = Err x in HasRunCause before now r)
+put_caused before now or.Memory x h same =
+    subst (λ (y : RunFault). let r : Result (Option RunEnd) RunFault = Err y in HasRunCause before now r) (sym same) (record { later = h.later; told = h.told })
+put_caused before now (or.Fault f) x h same =
+    subst (λ (y : RunFault). let r : Result (Option RunEnd) RunFault = Err y in HasRunCause before now r) (sym same) (record { later = h.later; told = h.told })
 
 -- What holds of a world holds of the same one.
 pub sound_at : (R : Program → Passing → Held → Done Flow → Type 0) (p : Program) (a b : Point) → a ≡ b → StepsOn R p b → StepsOn R p a

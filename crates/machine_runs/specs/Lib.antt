@@ -6,5 +6,6 @@ pub mod Turning
 pub mod Leading
 pub mod Stepping
 pub mod Worlds
+pub mod Beyond
 pub mod Fit
 pub mod Playing

@@ -7,8 +7,8 @@ ghost use Rattle.machine_runs.specs.Fit.{ModulesFit};
 use programs::Program;
 use value_parts::PassesValues;
 
-/// A step can be made in each world to which fewer than 2^35 steps lead, where the modules of a graph are valid, and values are passed by what
-/// leaves stacks typed and lends handles no more often than it counts what it lifts.
+/// What a step asks for holds in each world to which fewer than 2^35 steps lead, where the modules of a graph are valid, and values are passed
+/// by what leaves stacks typed and lends handles no more often than it counts what it lifts. That a rule applies there is not said.
 pub fn runs_step_on<V: PassesValues>(program: &Program<'_, '_>)
     requires valid { ModulesFit program.now.graph.now }
     requires fit { PassesStayFit V.may_pass program.now }

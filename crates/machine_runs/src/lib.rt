@@ -10,13 +10,15 @@
 //! - `following`: events that come, and stacks that go on
 //! - `turning`: where no task runs, the script's next item is taken or a task goes on
 //! - `stepping`: one step, by what is to be passed and where the run is
-//! - `laws`: a step can be made in each world to which steps lead
-//! - `world`: worlds in a run; `ending`: how runs end; `running_script`: runs of scripts, whose trace goes out as they go
+//! - `laws`: what a step asks for holds in each world to which steps lead
+//! - `world`: worlds in a run; `ending`: how runs end, `fault`: why one comes to no end; `running_script`: runs of scripts, whose trace goes out as
+//!   they go
 #![tactic(auto, using(world_parts::proofs::Thens::then_gives, world_parts::proofs::Thens::then_traps, world_parts::proofs::Thens::then_spent, world_parts::proofs::Thens::then_stuck, world_stacks::proofs::Givens::given_some, world_stacks::proofs::Givens::given_none))]
 
 mod beginning;
 mod calling;
 mod ending;
+mod fault;
 mod following;
 mod laws;
 mod moving;
@@ -29,6 +31,7 @@ mod world;
 pub use beginning::{first_parts, first_stacks};
 pub use calling::call;
 pub use ending::{LastLine, RunEnd};
+pub use fault::RunFault;
 pub use following::follow;
 pub use laws::runs_step_on;
 pub use moving::make_move;

@@ -9,10 +9,11 @@ ghost use Rattle.trace_show.specs.Trace.{put_so_far, HasPutCause};
 ghost use Rattle.trace_show.specs.LabelText.{label_text, trace_text};
 ghost use Rattle.world_parts.specs.Held.{held};
 ghost use Rattle.machine_runs.specs.Stepping.{CanStep};
-ghost use Rattle.machine_runs.specs.Worlds.{point_of, first_point, StepGives, StepsOn};
-ghost use Rattle.machine_runs.specs.Playing.{dump_if, Took, Puts, TellsAll, Plays, PlaysOn, ScriptRuns};
+ghost use Rattle.machine_runs.specs.Worlds.{point_of, first_point, StepsOn};
+ghost use Rattle.machine_runs.specs.Playing.{dump_if, Took, Grew, Puts, TellsAll, StepComes, Plays, PlaysOn, WorldRuns, ScriptRuns, HasRunCause};
 
 use crate::ending::{LastLine, RunEnd, free_line, fuel_line, trap_line};
+use crate::fault::{RunFault, put_fault};
 use crate::stepping::Step;
 use crate::world::World;
 use ca_base::{Bytes, Memory, MemoryOr};
@@ -34,7 +35,7 @@ pub struct Ran {
 }
 
 /// Puts lines, in order.
-#[tactic(auto, using(crate::proofs::Played::puts_more, crate::proofs::Played::puts_end))]
+#[tactic(auto, using(crate::proofs::Played::puts_more, crate::proofs::Played::puts_end, crate::proofs::Played::grew_none, crate::proofs::Played::grew_front, crate::proofs::Played::grew_then))]
 fn put_lines<K: Sink>(
     alloc: Global,
     lines: &[Label],
@@ -42,6 +43,7 @@ fn put_lines<K: Sink>(
 ) -> Result<(), MemoryOr<Failed>>
     ensures same_sink { trace.new.sink.ghost_name ≡ trace.old.sink.ghost_name }
     ensures puts { Puts (put_so_far (K.taken trace.old.sink.now) trace.old.kept.now.items) lines.now result (put_so_far (K.taken trace.new.sink.now) trace.new.kept.now.items) (K.taken trace.new.sink.now) }
+    ensures grows { Grew (K.taken trace.old.sink.now) (K.taken trace.new.sink.now) }
     ensures cause { HasPutCause (K.faults trace.old.sink.now) (K.faults trace.new.sink.now) result }
 {
     for line in lines {
@@ -50,21 +52,23 @@ fn put_lines<K: Sink>(
     Ok(())
 }
 
-/// How many steps are made at most. A run of more, which a script's fuel may pay for where nearly all of its steps cost nothing, answers as one that
-/// is short of memory.
+/// How many steps are made at most. A script's fuel may pay for more of them where nearly all cost nothing; such a run goes beyond what is run.
 const MOST_STEPS: u64 = 34_359_738_368;
 
-/// Makes a step. The answer is the last line, where that ends the run. Where no rule applies, or a task traps and none acts, it is `Memory`, of
-/// which nothing is said.
-#[tactic(auto, using(crate::proofs::Played::next_goes, crate::proofs::Played::next_ends, crate::proofs::Played::next_traps, crate::proofs::Played::next_wants))]
+/// Makes a step. The answer is the last line, where that ends the run.
+///
+/// # Errors
+///
+/// `Memory`, and `Beyond` where no rule applies, or a task traps and none acts.
+#[tactic(auto, using(crate::proofs::Played::next_goes, crate::proofs::Played::next_ends, crate::proofs::Played::next_traps, crate::proofs::Played::next_wants, crate::proofs::Played::next_lost, crate::proofs::Played::next_lost_trap))]
 fn next<V: PassesValues>(
     alloc: Global,
     program: &Program<'_, '_>,
     world: &mut World,
-) -> Result<Option<LastLine>, Memory>
+) -> Result<Option<LastLine>, RunFault>
     requires distinct { AreDistinct program.now.types.now }
     requires can { CanStep world.old.passing world.old.stacks.piles.items (held world.old.parts) }
-    ensures { IfOk result (λ last. StepGives V.may_pass program.now (point_of world.old) last (point_of world.new)) }
+    ensures { StepComes V.may_pass program.now (point_of world.old) result (point_of world.new) }
 {
     match world.step::<V>(alloc, program) {
         Ok(Step::GoesOn(passing)) => {
@@ -77,16 +81,16 @@ fn next<V: PassesValues>(
         }
         Err(Stop::Trap(name)) => match trap_line(&world.parts, name) {
             Some(last) => Ok(Some(last)),
-            None => Err(Memory),
+            None => Err(RunFault::Beyond),
         },
         Err(Stop::NoFuel) => Ok(Some(fuel_line())),
-        Err(Stop::Stuck) => Err(Memory),
-        Err(Stop::Memory) => Err(Memory),
+        Err(Stop::Stuck) => Err(RunFault::Beyond),
+        Err(Stop::Memory) => Err(RunFault::Memory),
     }
 }
 
 /// Puts lines, and the last line of a run, if it is there. Behind that one all is written.
-#[tactic(auto, using(crate::proofs::Played::told_end, crate::proofs::Played::told_last, crate::proofs::Played::cause_then))]
+#[tactic(auto, using(crate::proofs::Played::told_end, crate::proofs::Played::told_last, crate::proofs::Played::cause_then, crate::proofs::Played::grew_then))]
 fn tell<K: Sink>(
     alloc: Global,
     lines: &[Label],
@@ -95,6 +99,7 @@ fn tell<K: Sink>(
 ) -> Result<(), MemoryOr<Failed>>
     ensures same_sink { trace.new.sink.ghost_name ≡ trace.old.sink.ghost_name }
     ensures tells { TellsAll (put_so_far (K.taken trace.old.sink.now) trace.old.kept.now.items) lines.now last.now result (put_so_far (K.taken trace.new.sink.now) trace.new.kept.now.items) (K.taken trace.new.sink.now) }
+    ensures grows { Grew (K.taken trace.old.sink.now) (K.taken trace.new.sink.now) }
     ensures cause { HasPutCause (K.faults trace.old.sink.now) (K.faults trace.new.sink.now) result }
 {
     put_lines(alloc, lines, trace)?;
@@ -105,7 +110,7 @@ fn tell<K: Sink>(
 }
 
 /// Puts a line, and writes all out.
-#[tactic(auto, using(crate::proofs::Played::put_fails, crate::proofs::Played::flush_fails))]
+#[tactic(auto, using(crate::proofs::Played::put_fails, crate::proofs::Played::flush_fails, crate::proofs::Played::grew_front))]
 fn put_last<K: Sink>(
     alloc: Global,
     line: &Label,
@@ -114,6 +119,7 @@ fn put_last<K: Sink>(
     ensures same_sink { trace.new.sink.ghost_name ≡ trace.old.sink.ghost_name }
     ensures ok { OnOk result (K.taken trace.new.sink.now ≡ grown (put_so_far (K.taken trace.old.sink.now) trace.old.kept.now.items) (label_text line.now)) }
     ensures failed { OnErr result (Took (K.taken trace.new.sink.now) (grown (put_so_far (K.taken trace.old.sink.now) trace.old.kept.now.items) (label_text line.now))) }
+    ensures grows { Grew (K.taken trace.old.sink.now) (K.taken trace.new.sink.now) }
     ensures cause { HasPutCause (K.faults trace.old.sink.now) (K.faults trace.new.sink.now) result }
 {
     trace.put(alloc, line)?;
@@ -124,18 +130,19 @@ fn put_last<K: Sink>(
 }
 
 /// Makes a step, whose lines go out. The answer is how the run ends, where it does.
-#[tactic(auto, using(crate::proofs::Played::plays_none, crate::proofs::Played::plays_end, crate::proofs::Played::plays_ok))]
+#[tactic(auto, using(crate::proofs::Played::plays_none, crate::proofs::Played::plays_end, crate::proofs::Played::plays_ok, crate::proofs::Played::grew_none, crate::proofs::Played::put_caused))]
 fn play<V: PassesValues, K: Sink>(
     alloc: Global,
     program: &Program<'_, '_>,
     world: &mut World,
     trace: &mut Trace<'_, K>,
-) -> Result<Option<RunEnd>, MemoryOr<Failed>>
+) -> Result<Option<RunEnd>, RunFault>
     requires distinct { AreDistinct program.now.types.now }
     requires can { CanStep world.old.passing world.old.stacks.piles.items (held world.old.parts) }
     ensures same_sink { trace.new.sink.ghost_name ≡ trace.old.sink.ghost_name }
     ensures plays { Plays V.may_pass program.now (point_of world.old) (put_so_far (K.taken trace.old.sink.now) trace.old.kept.now.items) result (point_of world.new) (put_so_far (K.taken trace.new.sink.now) trace.new.kept.now.items) (K.taken trace.new.sink.now) }
-    ensures cause { HasPutCause (K.faults trace.old.sink.now) (K.faults trace.new.sink.now) result }
+    ensures grows { Grew (K.taken trace.old.sink.now) (K.taken trace.new.sink.now) }
+    ensures cause { HasRunCause (K.faults trace.old.sink.now) (K.faults trace.new.sink.now) result }
 {
     let last = next::<V>(alloc, program, world)?;
     let lines = world.take_lines(alloc);
@@ -145,7 +152,7 @@ fn play<V: PassesValues, K: Sink>(
     drop(last);
     match told {
         Ok(()) => Ok(end),
-        Err(fault) => Err(fault),
+        Err(fault) => Err(put_fault(fault)),
     }
 }
 
@@ -160,18 +167,19 @@ fn end_of(last: &Option<LastLine>) -> Option<RunEnd>
 }
 
 /// Makes steps up to where the run ends, and no more than `MOST_STEPS`.
-#[tactic(auto, using(crate::proofs::Played::on_first, crate::proofs::Played::on_ends, crate::proofs::Played::on_fails, crate::proofs::Played::on_out))]
+#[tactic(auto, using(crate::proofs::Played::on_first, crate::proofs::Played::on_ends, crate::proofs::Played::on_fails, crate::proofs::Played::on_out, crate::proofs::Played::grew_none, crate::proofs::Played::grew_then))]
 fn play_on<V: PassesValues, K: Sink>(
     alloc: Global,
     program: &Program<'_, '_>,
     world: &mut World,
     trace: &mut Trace<'_, K>,
-) -> Result<RunEnd, MemoryOr<Failed>>
+) -> Result<RunEnd, RunFault>
     requires distinct { AreDistinct program.now.types.now }
     requires sound { StepsOn V.may_pass program.now (point_of world.old) }
     ensures same_sink { trace.new.sink.ghost_name ≡ trace.old.sink.ghost_name }
     ensures plays { PlaysOn V.may_pass program.now (point_of world.old) (put_so_far (K.taken trace.old.sink.now) trace.old.kept.now.items) result (point_of world.new) (K.taken trace.new.sink.now) }
-    ensures cause { HasPutCause (K.faults trace.old.sink.now) (K.faults trace.new.sink.now) result }
+    ensures grows { Grew (K.taken trace.old.sink.now) (K.taken trace.new.sink.now) }
+    ensures cause { HasRunCause (K.faults trace.old.sink.now) (K.faults trace.new.sink.now) result }
 {
     for _step in 0..MOST_STEPS {
         match play::<V, K>(alloc, program, world, trace)? {
@@ -179,7 +187,7 @@ fn play_on<V: PassesValues, K: Sink>(
             None => {}
         }
     }
-    Err(MemoryOr::Memory)
+    Err(RunFault::Beyond)
 }
 
 /// The text of what a run left, where that is asked for.
@@ -202,12 +210,13 @@ fn run_world<V: PassesValues, K: Sink>(
     world: &mut World,
     trace: &mut Trace<'_, K>,
     dumps: bool,
-) -> Result<Ran, MemoryOr<Failed>>
+) -> Result<Ran, RunFault>
     requires distinct { AreDistinct program.now.types.now }
     requires sound { StepsOn V.may_pass program.now (point_of world.old) }
     ensures same_sink { trace.new.sink.ghost_name ≡ trace.old.sink.ghost_name }
-    ensures runs { ScriptRuns V.may_pass program.now (point_of world.old) dumps (put_so_far (K.taken trace.old.sink.now) trace.old.kept.now.items) result (K.taken trace.new.sink.now) }
-    ensures cause { HasPutCause (K.faults trace.old.sink.now) (K.faults trace.new.sink.now) result }
+    ensures runs { WorldRuns V.may_pass program.now (point_of world.old) dumps (put_so_far (K.taken trace.old.sink.now) trace.old.kept.now.items) result (K.taken trace.new.sink.now) }
+    ensures grows { Grew (K.taken trace.old.sink.now) (K.taken trace.new.sink.now) }
+    ensures cause { HasRunCause (K.faults trace.old.sink.now) (K.faults trace.new.sink.now) result }
 {
     let end = play_on::<V, K>(alloc, program, world, trace)?;
     let dump = dump_if(alloc, &world.parts, dumps)?;
@@ -219,20 +228,22 @@ fn run_world<V: PassesValues, K: Sink>(
 ///
 /// # Errors
 ///
-/// `Fault` where a write failed, and `Memory` where memory, or numbers, ran out, where no rule applies, where a task traps and none acts, and behind 2^35
-/// steps. The sink has then taken some front of the text of the run.
-#[tactic(auto, using(crate::proofs::Played::sound_at, crate::proofs::Played::no_world))]
+/// `Write` where a write of the trace failed, and `Memory` where memory, or numbers, ran out. `Beyond` where the run comes to a world from which no rule
+/// applies, or from which a step is a trap while no task acts, or where it has made 2^35 steps. The sink has then taken some front of the text of the
+/// lines up to there, and nothing else.
+#[tactic(auto, using(crate::proofs::Played::sound_at, crate::proofs::Played::no_world, crate::proofs::Played::grew_none))]
 pub fn run_script<V: PassesValues, K: Sink>(
     alloc: Global,
     program: &Program<'_, '_>,
     trace: &mut Trace<'_, K>,
     dumps: bool,
-) -> Result<Ran, MemoryOr<Failed>>
+) -> Result<Ran, RunFault>
     requires distinct { AreDistinct program.now.types.now }
     requires sound { StepsOn V.may_pass program.now (first_point program.now.graph.now program.now.script.now) }
     ensures same_sink { trace.new.sink.ghost_name ≡ trace.old.sink.ghost_name }
-    ensures runs { ScriptRuns V.may_pass program.now (first_point program.now.graph.now program.now.script.now) dumps (put_so_far (K.taken trace.old.sink.now) trace.old.kept.now.items) result (K.taken trace.new.sink.now) }
-    ensures cause { HasPutCause (K.faults trace.old.sink.now) (K.faults trace.new.sink.now) result }
+    ensures runs { ScriptRuns V.may_pass program.now (first_point program.now.graph.now program.now.script.now) dumps (K.taken trace.old.sink.now) trace.old.kept.now.items result (K.taken trace.new.sink.now) }
+    ensures grows { Grew (K.taken trace.old.sink.now) (K.taken trace.new.sink.now) }
+    ensures cause { HasRunCause (K.faults trace.old.sink.now) (K.faults trace.new.sink.now) result }
 {
     let mut world = World::new(alloc, program.graph, program.script)?;
     let ran = run_world::<V, K>(alloc, program, &mut world, trace, dumps);

@@ -23,7 +23,7 @@ pub enum Passing {
 
 /// What passes values between tasks (Component Model, CanonicalABI.md, "Lifting and Lowering Values").
 ///
-/// A relation says what passing may come to from what is kept: where core code runs in its midst, which gives out places, that is not one thing.
+/// A relation says what passing may come to from what is kept: where core code runs in its midst, it says so by what its run came to.
 pub trait PassesValues {
     ghost use Rattle.programs.specs.declared.program.Program.{Program};
     ghost use Rattle.laid_types.specs.SameTypes.{AreDistinct};
