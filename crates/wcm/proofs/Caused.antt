@@ -1,8 +1,7 @@
 -- The status of an answer has its cause, each cause has an answer, and where the files are told, and what runs is synchronous, no other status has one.
-use Rattle.std.proofs.Common.{◌≡◌, ◌⊎◌, inl, inr, ℕ, Bool, true, false, List, [], refl, sym, ap, ◌∙◌, subst, Option, Some, None}
+use Rattle.std.proofs.Common.{◌≡◌, ◌⊎◌, inl, inr, ℕ, true, List, [], refl, sym, ◌∙◌, subst, Option, Some, None}
 use Rattle.std.specs.Option.{IsSome}
 use Rattle.ca_base.specs.declared.refusal.Refusal.{Refusal}
-use Rattle.comp_tree.specs.declared.items.Component.{Component}
 use Rattle.part_reader.specs.declared.fault.ComponentWhy.{ComponentWhy}
 use Rattle.link_spec.specs.declared.fault.LinkFault.{LinkFault}
 use Rattle.comp_graph.specs.Graph.{Graph}
@@ -16,12 +15,12 @@ use Rattle.machine_runs.specs.declared.ending.RunEnd as runs
 use Rattle.machine_runs.specs.declared.ending.RunEnd.TheVariants as run
 use Rattle.wcm.specs.Status.{status_of, status_of_run}
 use Rattle.wcm.specs.Files.{IsFileRefused, IsFileNotLinked, IsFileLinked, RunsSynchronously}
-use Rattle.wcm.specs.Causes.{asks_of_graph, HasNoGraph, HasRun, HasRunOn, HasCause, IsCaused}
+use Rattle.wcm.specs.Causes.{asks_of_graph, HasRun, HasRunOn, HasCause, IsCaused}
 use Rattle.wcm.specs.Answers.{Answers, no_command, file_refused, not_linked, accepted, shown, script_refused, ran, ran_on, usage_answer, refused_answer, link_refused_answer, script_refused_answer, accepted_answer, shown_answer, run_answer, run_on_answer}
 use Rattle.wcm.specs.Laws.{StatusesHaveCauses, CausesHaveAnswers, RefusedFilesTellAll}
 use Rattle.wcm.proofs.Held.{same_bytes}
 use Rattle.wcm.proofs.Found.{Found, BadFile, BadLinks, GoodFile, Finds, one_found}
-use Rattle.wcm.proofs.Rows.{one_answer, same_status}
+use Rattle.wcm.proofs.Rows.{one_synchronous_answer, same_status}
 
 run_cause : (held : List ℕ → Option (List ℕ)) (words : Option Command) (end : RunEnd) → HasRun held words end → HasCause held words (status_of end)
 run_cause held words ends.Done r = inr (inl r)
@@ -120,7 +119,7 @@ caused held words a status h e = record {
   cause = subst (λ (s : Status). HasCause held words s) (sym e) (statuses_have_causes held words a h);
   only = λ told sync other c.
       let b = causes_have_answers held words other c in
-      sym b.2 ∙ (same_status words a b.0 (one_answer held words a b.0 told sync h b.1) ∙ sym e);
+      sym b.2 ∙ (same_status words a b.0 (one_synchronous_answer held words a b.0 told sync h b.1) ∙ sym e);
 }
 
 -- A component file that is told is not linked where it is refused,

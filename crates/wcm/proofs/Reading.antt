@@ -1,5 +1,5 @@
 -- What files may hold that are too long, and the rows of answers that need no run.
-use Rattle.std.proofs.Common.{◌≡◌, ◌<◌, ℕ, Bool, true, false, List, length, Option, Some, Result, Ok, Err, IsErrOf, MatchResult, inl, refl, sym, subst}
+use Rattle.std.proofs.Common.{◌≡◌, ◌<◌, ℕ, Bool, List, length, Option, Some, Result, Ok, Err, IsErrOf, MatchResult, inl, refl, sym, subst}
 use Rattle.std.specs.Prelude.{IfOk}
 use Rattle.std.proofs.lemmas.Bool.{lt-ltb}
 use Rattle.std.specs.Option.{IfSome}

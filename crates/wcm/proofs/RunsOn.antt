@@ -1,55 +1,28 @@
--- What is gathered of a run by the machine of asynchronous calls is its text, and makes the answer of the run.
-use Rattle.std.proofs.Common.{◌≡◌, ℕ, Bool, true, false, if◌then◌else◌, List, [], ◌++◌, Option, Some, None, Result, Ok, Err, refl, ap, sym, ◌∙◌, subst}
-use Rattle.std.specs.Prelude.{IfOk}
-use Rattle.ca_base.specs.declared.memory.MemoryOr.{MemoryOr}
-use Rattle.ca_io.specs.Bytes.{grown}
+-- The text of a run by the machine of asynchronous calls makes its answer.
+use Rattle.std.proofs.Common.{◌≡◌, ℕ, Bool, false, List, [], Option, Some, ap, sym, ◌∙◌, subst}
 use Rattle.script_reader.specs.Script.{Script}
 use Rattle.comp_graph.specs.Graph.{Graph}
 use Rattle.link_spec.specs.Laws.{ModulesStand}
 use Rattle.graph_laws.specs.Laws.{ReadModulesAreTyped}
 use Rattle.trace_show.specs.declared.label.Label.{Label}
-use Rattle.trace_show.specs.LabelText.{trace_text}
 use Rattle.programs.specs.declared.program.Program.{Program}
 use Rattle.program_maker.specs.Programs.{IsProgram}
 use Rattle.world_parts.specs.Held.{Held}
-use Rattle.world_dumps.specs.Tables.{dump_of}
 use Rattle.value_moves.specs.Passing.{Passes}
 use Rattle.machine_runs.specs.declared.ending.RunEnd.{RunEnd}
-use Rattle.machine_runs.specs.declared.running_script.Ran.{Ran}
 use Rattle.machine_runs.specs.Fit.{ModulesFit}
 use Rattle.machine_runs.specs.Worlds.{Point, first_point, IsRun}
-use Rattle.machine_runs.specs.Playing.{dump_if, ScriptRuns}
 use Rattle.command_words.specs.Words.{Run}
 use Rattle.wcm.specs.declared.answer.Answer.{Answer}
 use Rattle.wcm.specs.Status.{status_of_run}
 use Rattle.wcm.specs.Files.{IsOfComponent, IsFileLinked, IsScriptFile}
 use Rattle.wcm.specs.Machines.{is_synchronous}
-use Rattle.wcm.specs.Answers.{Answers, ran_on, dumped, run_on_text, run_on_answer}
+use Rattle.wcm.specs.Answers.{Answers, ran_on, run_on_text, run_on_answer}
 use Rattle.wcm.proofs.Sounds.{modules_fit}
 
-some_inj : {A : Type 0} {x y : A} → Some x ≡ Some y → x ≡ y
-some_inj h = cc
-
--- The text of a run, of what was gathered, and of what it left.
-dumped_if : (dump : Bool) (h : Held) → dumped (dump_if dump h) ≡ (if dump then dump_of h else [])
-dumped_if true h = refl
-dumped_if false h = refl
-
+-- a text of a run from this world on
 abbrev pub IsTextOf : Program → Point → Bool → RunEnd → List ℕ → Type 0
 IsTextOf p a dump end text = (lines : List Label) × (last : Held) × IsRun Passes p a end lines last × (text ≡ run_on_text dump lines last)
-
-pub text_told : {E : Type 0} (p : Program) (a : Point) (dump : Bool) (before taken : Option (List ℕ)) (result : Result Ran (MemoryOr E)) (ran : Ran) (trace text : List ℕ) (end : RunEnd)
-    → ScriptRuns Passes p a dump before result taken → result ≡ Ok ran → before ≡ Some [] → taken ≡ Some trace → end ≡ ran.end → text ≡ trace ++ dumped ran.dump
-    → IsTextOf p a dump end text
-text_told {E} p a dump before taken result ran trace text end runs is first all ends texts =
-    let run = subst (λ (r : Result Ran (MemoryOr E)). ScriptRuns Passes p a dump before r taken) is runs in
-    let same : Some trace ≡ Some (trace_text run.0) = sym all ∙ (run.3 ∙ ap (λ (b : Option (List ℕ)). grown b (trace_text run.0)) first) in
-    let gathered : trace ≡ trace_text run.0 = some_inj same in (
-      run.0,
-      run.1,
-      subst (λ (e : RunEnd). IsRun Passes p a e run.0 run.1) (sym ends) run.2,
-      texts ∙ (ap (λ (t : List ℕ). t ++ dumped ran.dump) gathered ∙ ap (λ (d : List ℕ). trace_text run.0 ++ d) (ap dumped run.4 ∙ dumped_if dump run.1)),
-    )
 
 -- The modules of a program of a graph that is read and linked are valid.
 pub program_fits : ReadModulesAreTyped → ModulesStand → (g : Graph) (s : Script) (p : Program) → IsOfComponent g → IsProgram g s p → ModulesFit p.graph.now

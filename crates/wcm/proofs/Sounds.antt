@@ -18,9 +18,7 @@ use Rattle.canonical_machine.specs.Owners.{IsApart}
 use Rattle.canonical_machine.specs.Plain.{IsPlain}
 use Rattle.canonical_machine.specs.declared.run_end.RunEnd.{RunEnd}
 use Rattle.canonical_machine.specs.declared.run_end.RunEnd.TheVariants as ends
-use Rattle.canonical_machine.specs.World.{World}
-use Rattle.canonical_machine.specs.Run.{Runs, trace_of}
-use Rattle.trace_show.specs.declared.label.Label.{Label}
+use Rattle.canonical_machine.specs.Run.{trace_of}
 use Rattle.trace_show.specs.LabelText.{trace_text}
 use Rattle.trace_show.specs.DumpText.{dump_text}
 use Rattle.builtins.specs.declared.script_run.Run.{Run}

@@ -1,7 +1,7 @@
 -- What the files that a command names come to. A file holds what is told of it; where nothing is told of it, it may hold anything. The
 -- component file is refused, or its component is not linked, or it is linked to a graph. The script file is refused, or it is a script
 -- for the functions that can be called.
-use Rattle.std.specs.Prelude.{◌≡◌, ◌<◌, ◌≤◌, ◌⊎◌, ℕ, true, List, length, Option, Some, IfSome, IsSome}
+use Rattle.std.specs.Prelude.{◌≡◌, ◌<◌, ◌≤◌, ◌⊎◌, ℕ, true, List, length, Option, IfSome, IsSome}
 use Rattle.ca_base.specs.declared.refusal.Refusal.{Refusal}
 use Rattle.ca_types.specs.declared.exports.Export.{Export}
 use Rattle.comp_tree.specs.declared.items.Component.{Component}

@@ -1,5 +1,5 @@
 -- What holds of the definitions alone.
-use Rattle.std.specs.Prelude.{◌≡◌, ◌⊎◌, ℕ, true, List, [], Option, IfSome, MatchOption}
+use Rattle.std.specs.Prelude.{◌≡◌, ◌⊎◌, ℕ, true, List, [], Option, Some, None, IfSome, MatchOption}
 use Rattle.comp_tree.specs.declared.items.Component.{Component}
 use Rattle.comp_reader.specs.Binary.{IsComponent}
 use Rattle.script_reader.specs.Script.{Script, IsScript}
@@ -10,7 +10,13 @@ use Rattle.comp_graph.specs.Graph.{Graph}
 use Rattle.link_spec.specs.Linked.{IsLinked}
 use Rattle.canonical_machine.specs.Sound.{AreBytes, IsSound}
 use Rattle.canonical_machine.specs.Plain.{IsPlain}
-use Rattle.wcm.specs.Answers.{Answers}
+use Rattle.programs.specs.declared.program.Program.{Program}
+use Rattle.trace_show.specs.declared.label.Label.{Label}
+use Rattle.world_parts.specs.Held.{Held}
+use Rattle.value_moves.specs.Passing.{Passes}
+use Rattle.machine_runs.specs.declared.ending.RunEnd.{RunEnd}
+use Rattle.machine_runs.specs.Worlds.{Point, IsRun}
+use Rattle.wcm.specs.Answers.{Answers, no_command, file_refused, not_linked, accepted, shown, script_refused, ran, ran_on}
 use Rattle.wcm.specs.Causes.{HasCause}
 use Rattle.wcm.specs.Files.{IsComponentTold, IsTold, IsSynchronous}
 use Rattle.wcm.specs.Machines.{is_synchronous}
@@ -35,12 +41,38 @@ HoldsBytes held = (name : List ℕ) → IfSome (held name) AreBytes
 abbrev pub IsSameAnswer : Option Command → Answer → Answer → Type 0
 IsSameAnswer words a b = MatchOption words ((b.status ≡ a.status) × (b.out ≡ a.out)) (λ command. b ≡ a)
 
--- Where the files that words ask for are told, and what runs is synchronous, there is one answer at the most; and there is one, where the
--- files are of bytes.
+-- The program of the run of an answer, if the machine of asynchronous calls makes one. A graph and a script have several, which tell the types of
+-- what is passed by other numbers.
+abbrev pub program_in : (held : List ℕ → Option (List ℕ)) (words : Option Command) (a : Answer) → Answers held words a → Option Program
+program_in held words a (no_command text) = None
+program_in held words a (file_refused command refusal f) = None
+program_in held words a (not_linked command fault f) = None
+program_in held words a (accepted file g f) = None
+program_in held words a (shown file g f) = None
+program_in held words a (script_refused file script dump g fault f s) = None
+program_in held words a (ran file script dump g calls labels last end f sync s comes) = None
+program_in held words a (ran_on file script dump g calls p lines last end f beyond s is_of goes) = Some p
+
+-- these are one program, where both are there
+abbrev pub IsOneProgram : Option Program → Option Program → Type 0
+IsOneProgram None q = Unit {0}
+IsOneProgram (Some p) None = Unit {0}
+IsOneProgram (Some p) (Some q) = p ≡ q
+
+-- Two runs of a program from one world end in the same way, with the same lines, and leave the same. It is so for each program of a graph and a
+-- script (`one_run_laws`).
+abbrev pub RunsOnce : Program → Type 0
+RunsOnce p =
+    (a : Point) (end other : RunEnd) (lines more : List Label) (h k : Held)
+    → IsRun Passes p a end lines h → IsRun Passes p a other more k → (end ≡ other) × (lines ≡ more) × (h ≡ k)
+
+-- Where the files that words ask for are told, there is one answer at the most, where runs are of one program that runs once; and there is one,
+-- where the files are of bytes, and what runs is synchronous.
 abbrev pub OneAnswer : Type 0
 OneAnswer =
-    (held : List ℕ → Option (List ℕ)) (words : Option Command) (a b : Answer)
-    → IsTold held words → IsSynchronous held words → Answers held words a → Answers held words b → IsSameAnswer words a b
+    (held : List ℕ → Option (List ℕ)) (words : Option Command) (a b : Answer) (h : Answers held words a) (k : Answers held words b)
+    → IsTold held words → IsOneProgram (program_in held words a h) (program_in held words b k) → IfSome (program_in held words a h) RunsOnce
+    → IsSameAnswer words a b
 
 abbrev pub SomeAnswer : Type 0
 SomeAnswer =

@@ -25,8 +25,9 @@ pub fn sound_scripts_are_synchronous()
     ensures { SoundScriptsAreSynchronous }
 {}
 
-/// Where the files that words ask for are told, and what runs is synchronous, there is one answer at the most, but for the text for the
-/// error output where the words are no command; and there is one, where the files are of bytes.
+/// Where the files that words ask for are told, there is one answer at the most, of runs of asynchronous calls for each program that runs
+/// once, but for the text for the error output where the words are no command; and there is one, where the files are of bytes, and what
+/// runs is synchronous.
 pub fn one_answer()
     ensures one { OneAnswer }
     ensures some { SomeAnswer }

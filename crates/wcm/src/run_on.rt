@@ -54,7 +54,8 @@ fn run_text(alloc: Global, program: &Program<'_, '_>, dump: bool) -> Result<RunT
 {
     let mut gathered = Gathered::new(alloc);
     let mut kept = Vec::new(alloc);
-    let mut trace = Trace::new(&mut gathered, &mut kept);
+    let mut last = Vec::new(alloc);
+    let mut trace = Trace::new(&mut gathered, &mut kept, &mut last);
     let ran = run_script::<ValueMoves, Gathered>(alloc, program, &mut trace, dump);
     match ran {
         Ok(ran) => text_of(ran, gathered.into_bytes()),
