@@ -25,8 +25,8 @@ pub fn linked_graphs_are_typed()
     read_modules_are_typed();
 }
 
-/// A script that cancels no call, and whose items call exports of a graph that has what its lifts use, with values of their parameters' types, is for
-/// that graph; and so is one that is read for the exports of a linked graph, which cancels none yet. So what its items name is there in every world.
+/// A script that cancels calls before alone, and whose items call exports of a graph that has what its lifts use, with values of their parameters' types, is for
+/// that graph; and so is one that is read for the exports of a linked graph, which cancels such calls alone. So what its items name is there in every world.
 pub fn scripts_are_for_graphs()
     ensures calls { CallsAreForGraphs }
     ensures read { ReadScriptsAreForGraphs }

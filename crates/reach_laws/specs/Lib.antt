@@ -1,0 +1,4 @@
+pub mod Runnable
+pub mod Reached
+pub mod Going
+pub mod ReadScripts
