@@ -1,0 +1,3 @@
+pub mod Chars
+pub mod Counted
+pub mod runs
