@@ -121,7 +121,7 @@ copy_words : (of_what : EndKind) (words : List ℕ) → HasMany (words_of_copy o
 copy_words end_kind.Stream words has = (has 0 (omega arith), has 1 (omega arith), has 2 (omega arith))
 copy_words end_kind.Future words has = (has 0 (omega arith), has 1 (omega arith), refl)
 
-end_words : (of_what : EndKind) (op : EndOp) (words : List ℕ) → HasMany (words_of_end of_what op) words → ends.HasWords of_what op words
+pub end_words : (of_what : EndKind) (op : EndOp) (words : List ℕ) → HasMany (words_of_end of_what op) words → ends.HasWords of_what op words
 end_words of_what end_op.New words has = tt
 end_words of_what (end_op.Copy side options) words has = copy_words of_what words has
 end_words of_what (end_op.Cancel side is_async) words has = has 0 (omega arith)
@@ -308,7 +308,7 @@ lower_answers g values s types h stacks w t task f number words l made calls cal
     (ap is_some calls.acts.runs) callers (ap (λ (o : Option CanonFunc). lowered_in o) made) refl refl refl st)
 
 -- What is kept beside a world is right behind the line of a call too.
-memory_told : (t : ℕ) (c : CanonFunc) (words : List ℕ) (h : Held) (o : Option CoreRef) → memory_by o (line_told t c words h) ≡ memory_by o h
+pub memory_told : (t : ℕ) (c : CanonFunc) (words : List ℕ) (h : Held) (o : Option CoreRef) → memory_by o (line_told t c words h) ≡ memory_by o h
 memory_told t c words h None = refl
 memory_told t c words h (Some m) = refl
 

@@ -1,4 +1,4 @@
--- What a lowering over what is kept leaves as it was: the chain, streams and futures, and how many tasks there are. And how many elements are lifted.
+-- What a lowering over what is kept leaves as it was: the chain, streams and futures, and what tasks do. And how many elements are lifted.
 use Rattle.std.proofs.Common.{◌≡◌, ◌+◌, ◌*◌, ◌==◌, ℕ, zero, suc, Bool, true, false, if◌then◌else◌, List, [], ◌∷◌, ◌++◌, map, length, replicate, refl, sym, ap, ◌∙◌, subst, arith, Option, Some, None, Result, Ok, Err}
 use Rattle.std.specs.List.{slice_get, filter_map}
 use Rattle.std.proofs.lemmas.Bool.{eqb-true}
@@ -20,6 +20,8 @@ use Rattle.graph_views.specs.Canons.{canon_at}
 use Rattle.graph_views.specs.Names.{builtin_of}
 use Rattle.trace_show.specs.declared.label.Label.{Label}
 use Rattle.trace_show.specs.declared.label.Label.TheVariants as line
+use Rattle.task_table.specs.declared.errand.Callee.{Callee}
+use Rattle.task_table.specs.declared.slot.TaskSlot.{TaskSlot}
 use Rattle.task_table.specs.Slots.{with_word}
 use Rattle.world_parts.specs.Held as kept
 use Rattle.world_parts.specs.Held.{Held, Done, Gives, Traps, Spent, after, given}
@@ -32,17 +34,24 @@ use Rattle.abi_machine.specs.LiftingOver as machine
 use Rattle.abi_machine.specs.Lifting as lifting
 use Rattle.abi_machine.specs.World.{World}
 use Rattle.abi_machine.specs.Passing as passing
-use Rattle.run_laws.proofs.Moved.{set_long}
+use Rattle.run_laws.specs.Lifted.{callees_of}
+use Rattle.run_laws.proofs.Moved.{seen_set}
 
+-- How many images there are.
+pub map_long : {A B : Type 0} (f : A → B) (xs : List A) → length (map f xs) ≡ length xs
+map_long f [] = refl
+map_long f (x ∷ xs) = ap suc (map_long f xs)
+
+-- What stays.
 pub record IsBeside (h k : Held) : Type 0 where
   pub chain : k.chain ≡ h.chain
   pub streams : k.streams ≡ h.streams
   pub futures : k.futures ≡ h.futures
-  pub as_many : length k.tasks ≡ length h.tasks
+  pub same_tasks : callees_of k.tasks ≡ callees_of h.tasks
 
 abbrev pub KeepsBeside : {A : Type 0} → Held → Done A → Type 0
 KeepsBeside h (Gives x k) = IsBeside h k
-KeepsBeside h (Traps why k) = Unit {0}
+KeepsBeside h (Traps why k) = IsBeside h k
 KeepsBeside h (Spent k) = Unit {0}
 KeepsBeside h kept.Stuck = Unit {0}
 
@@ -51,36 +60,46 @@ then_beside h k l first more = record {
   chain = more.chain ∙ first.chain;
   streams = more.streams ∙ first.streams;
   futures = more.futures ∙ first.futures;
-  as_many = more.as_many ∙ first.as_many;
+  same_tasks = more.same_tasks ∙ first.same_tasks;
 }
+
+-- There are as many tasks.
+pub as_many : (h k : Held) → IsBeside h k → length k.tasks ≡ length h.tasks
+as_many h k same =
+    sym (map_long (λ (slot : TaskSlot). slot.callee) k.tasks) ∙ ap (λ (all : List Callee). length all) same.same_tasks ∙ map_long (λ (slot : TaskSlot). slot.callee) h.tasks
 
 keeps_then : {A : Type 0} (h k : Held) (d : Done A) → IsBeside h k → KeepsBeside k d → KeepsBeside h d
 keeps_then h k (Gives x l) first more = then_beside h k l first more
-keeps_then h k (Traps why l) first more = tt
+keeps_then h k (Traps why l) first more = then_beside h k l first more
 keeps_then h k (Spent l) first more = tt
 keeps_then h k kept.Stuck first more = tt
 
 after_beside : {A B : Type 0} (h : Held) (d : Done A) (F : A → Held → Done B) → KeepsBeside h d → ((x : A) (k : Held) → KeepsBeside k (F x k)) → KeepsBeside h (after d F)
 after_beside h (Gives x k) F first more = keeps_then h k (F x k) first (more x k)
-after_beside h (Traps why k) F first more = tt
+after_beside h (Traps why k) F first more = first
 after_beside h (Spent k) F first more = tt
 after_beside h kept.Stuck F first more = tt
 
-given_beside : {A B : Type 0} (h : Held) (o : Option A) (F : A → Done B) → ((x : A) → KeepsBeside h (F x)) → KeepsBeside h (given o F)
+given_beside : {A B : Type 0} (h : Held) (o : Option A) (F : A → Done B) → ((x : A) → o ≡ Some x → KeepsBeside h (F x)) → KeepsBeside h (given o F)
 given_beside h None F more = tt
-given_beside h (Some x) F more = more x
+given_beside h (Some x) F more = more x refl
 
 -- Words of context, and calls that are told.
 context_beside : (t number word : ℕ) (h : Held) → KeepsBeside h (context_set t number word h)
 context_beside t number word h =
     given_beside h (slice_get h.tasks t) (λ slot. Gives tt (with_task t (with_word number word slot) h))
-    (λ slot. record { chain = refl; streams = refl; futures = refl; as_many = set_long h.tasks t (with_word number word slot) })
+    (λ slot there. record {
+      chain = refl;
+      streams = refl;
+      futures = refl;
+      same_tasks = seen_set (λ (x : TaskSlot). x.callee) h.tasks t slot (with_word number word slot) there refl;
+    })
 
 told_beside : (label : Label) (h : Held) → KeepsBeside h (told label h)
-told_beside label h = record { chain = refl; streams = refl; futures = refl; as_many = refl }
+told_beside label h = record { chain = refl; streams = refl; futures = refl; same_tasks = refl }
 
 nothing_beside : (h : Held) → IsBeside h h
-nothing_beside h = record { chain = refl; streams = refl; futures = refl; as_many = refl }
+nothing_beside h = record { chain = refl; streams = refl; futures = refl; same_tasks = refl }
 
 got_beside : (t : ℕ) (got : Option (List ℕ)) (h : Held) → KeepsBeside h (got_told t got h)
 got_beside t None h = nothing_beside h
@@ -89,7 +108,7 @@ got_beside t (Some words) h = told_beside (line.Got t words) h
 act_beside : (g : Graph) (t : ℕ) (act : Act) (h : Held) → KeepsBeside h (act_told g t act h)
 act_beside g t act h =
     given_beside h (canon_at g act.canon) (λ c. after (told (line.Do t (builtin_of c) act.words) h) (λ done k. got_told t act.got k))
-    (λ c. after_beside h (told (line.Do t (builtin_of c) act.words) h) (λ done k. got_told t act.got k) (told_beside (line.Do t (builtin_of c) act.words) h)
+    (λ c there. after_beside h (told (line.Do t (builtin_of c) act.words) h) (λ done k. got_told t act.got k) (told_beside (line.Do t (builtin_of c) act.words) h)
     (λ done k. got_beside t act.got k))
 
 acts_beside : (g : Graph) (t : ℕ) (acts : List Act) (h : Held) → KeepsBeside h (all_told g t acts h)
@@ -99,10 +118,10 @@ acts_beside g t (act ∷ acts) h =
 
 lowered_beside : (came : Lowered) (h : Held) → KeepsBeside h (lowered_by came h)
 lowered_beside (lowered.Words words) h = nothing_beside h
-lowered_beside (lowered.Failed why) h = tt
-lowered_beside (lowered.Trapped (hosted.Core why)) h = tt
-lowered_beside (lowered.Trapped (hosted.Call refusal.CannotLeave)) h = tt
-lowered_beside (lowered.Trapped (hosted.Call (refusal.Refused why))) h = tt
+lowered_beside (lowered.Failed why) h = nothing_beside h
+lowered_beside (lowered.Trapped (hosted.Core why)) h = nothing_beside h
+lowered_beside (lowered.Trapped (hosted.Call refusal.CannotLeave)) h = nothing_beside h
+lowered_beside (lowered.Trapped (hosted.Call (refusal.Refused why))) h = nothing_beside h
 lowered_beside (lowered.Trapped (hosted.Call refusal.NoRule)) h = tt
 lowered_beside (lowered.Trapped hosted.NoRealloc) h = tt
 lowered_beside lowered.NoFuel h = tt
@@ -118,7 +137,7 @@ finished_beside g t acts came h =
 pub lowers_beside : (g : Graph) (to : Destination) (types : List ValType) (plan : Plan) (site : Site) (h : Held) (d : Done (List ℕ)) → LowersAt g to types plan site h d → KeepsBeside h d
 lowers_beside g to types plan site h d lowers =
     subst (λ (e : Done (List ℕ)). KeepsBeside h e) (sym lowers.3)
-    (keeps_then h (left_at to site lowers.1 h) (finished g to.task lowers.1.room.acts lowers.0 (left_at to site lowers.1 h)) (record { chain = refl; streams = refl; futures = refl; as_many = refl })
+    (keeps_then h (left_at to site lowers.1 h) (finished g to.task lowers.1.room.acts lowers.0 (left_at to site lowers.1 h)) (record { chain = refl; streams = refl; futures = refl; same_tasks = refl })
     (finished_beside g to.task lowers.1.room.acts lowers.0 (left_at to site lowers.1 h)))
 
 -- The same stream or future is found, and the same places hold something.
@@ -172,10 +191,6 @@ lifted_counted at callee type bytes place count w = list_counted (lifting.by_wor
 pub all_there : {A : Type 0} (xs : List A) → filter_map (λ (v : Option A). v) (map Some xs) ≡ xs
 all_there [] = refl
 all_there (x ∷ xs) = ap (λ ys. x ∷ ys) (all_there xs)
-
-pub map_long : {A B : Type 0} (f : A → B) (xs : List A) → length (map f xs) ≡ length xs
-map_long f [] = refl
-map_long f (x ∷ xs) = ap suc (map_long f xs)
 
 pub copies_long : {A : Type 0} (n : ℕ) (x : A) → length (replicate n x) ≡ n
 copies_long zero x = refl

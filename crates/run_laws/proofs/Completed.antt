@@ -52,7 +52,8 @@ use Rattle.standing.proofs.Steps.{via, turn_found}
 use Rattle.standing.proofs.Going.{done_as}
 use Rattle.standing.proofs.EndEdits.{Placed, placed, put, found_again, put_stands, idle_seen_is, idled_at, idled_is, idled_stands}
 use Rattle.run_laws.specs.Completed.{IsRuled, end_of, CopyIsCompleted}
-use Rattle.run_laws.proofs.Lowered.{set_twice}
+use Rattle.run_laws.proofs.Giving.{AllGive, after_gives, given_gives, if_gives}
+use Rattle.run_laws.proofs.Taking.{set_twice}
 
 -- The names and the words of both sides.
 same_name : (k : EndKind) (number : ℕ) → channel_named k number ≡ channel_by k number
@@ -247,37 +248,23 @@ copy_is_completed g values s h stacks w m size all a task counted there first ac
 
 -- It comes to an answer, or no rule applies.
 abbrev pub Answers : {A : Type 0} → Done A → Type 0
-Answers (Gives x k) = Unit {0}
-Answers (kept.Traps why k) = ⊥
-Answers (kept.Spent k) = ⊥
-Answers kept.Stuck = Unit {0}
-
-after_answers : {A B : Type 0} (d : Done A) (F : A → Held → Done B) → Answers d → ((x : A) (k : Held) → Answers (F x k)) → Answers (after d F)
-after_answers (Gives x k) F first more = more x k
-after_answers (kept.Traps why k) F first more = absurd first
-after_answers (kept.Spent k) F first more = absurd first
-after_answers kept.Stuck F first more = tt
-
-given_answers : {A B : Type 0} (o : Option A) (F : A → Done B) → ((x : A) → Answers (F x)) → Answers (given o F)
-given_answers None F more = tt
-given_answers (Some x) F more = more x
-
-if_answers : (b : Bool) (k : Held) → Answers {A = Unit {0}} (if b then Gives tt k else kept.Stuck)
-if_answers true k = tt
-if_answers false k = tt
+Answers d = AllGive (λ x k. Unit {0}) d
 
 pub completed_answers : (m : Moving) (what : Copied) (h : Held) → Answers (completed m what h)
 unfolding completed
 completed_answers m what h =
-    after_answers (copied m.kind m.number m.count h) _
-    (given_answers (place_of m.number) (λ place. copied_at m.kind place m.count h)
-    (λ place. given_answers (slice_get (channels m.kind h) place)
+    let Given : Unit {0} → Held → Type 0 = λ done k. Unit {0} in
+    let End : Flow → Held → Type 0 = λ flow k. Unit {0} in
+    after_gives Given End (copied m.kind m.number m.count h) _
+    (given_gives Given (place_of m.number) (λ place. copied_at m.kind place m.count h)
+    (λ place found. given_gives Given (slice_get (channels m.kind h) place)
     (λ c. if is_due m.count c.ends then Gives tt (with_channel m.kind place (copied_ends m.count c) h) else kept.Stuck)
-    (λ c. if_answers (is_due m.count c.ends) (with_channel m.kind place (copied_ends m.count c) h))))
-    (λ done k. after_answers (told (line.Copy (channel_named m.kind m.number) what) k) _ tt
-    (λ done l. after_answers (idle_seen m.kind m.side m.number l) _ (given_answers (channel_at m.kind m.number l) (λ c. Gives (is_idle (end_in m.side c.ends)) l) (λ c. tt))
-    (λ idle n. after_answers (end_idled m.at m.index idle n) (λ (done : Unit {0}) o. got m.task (completed_payload m.kind m.count ∷ []) o)
-    (given_answers (slice_get n.instances m.at)
+    (λ c there. if_gives Given (is_due m.count c.ends) (Gives tt (with_channel m.kind place (copied_ends m.count c) h)) tt)))
+    (λ done k one. after_gives Given End (told (line.Copy (channel_named m.kind m.number) what) k) _ tt
+    (λ done l two. after_gives (λ (idle : Bool) n. Unit {0}) End (idle_seen m.kind m.side m.number l) _
+    (given_gives (λ (idle : Bool) n. Unit {0}) (channel_at m.kind m.number l) (λ c. Gives (is_idle (end_in m.side c.ends)) l) (λ c there. tt))
+    (λ idle n three. after_gives Given End (end_idled m.at m.index idle n) (λ (done : Unit {0}) o. got m.task (completed_payload m.kind m.count ∷ []) o)
+    (given_gives Given (slice_get n.instances m.at)
     (λ i. if is_some (any_end_in (entry_of i m.index)) then Gives tt (with_instance m.at (instance.idled m.index idle i) n) else kept.Stuck)
-    (λ i. if_answers (is_some (any_end_in (entry_of i m.index))) (with_instance m.at (instance.idled m.index idle i) n)))
-    (λ done o. tt {0}))))
+    (λ i there. if_gives Given (is_some (any_end_in (entry_of i m.index))) (Gives tt (with_instance m.at (instance.idled m.index idle i) n)) tt))
+    (λ done o four. tt {0}))))

@@ -1,8 +1,8 @@
 -- Elements that go over.
-use Rattle.std.proofs.Common.{◌≡◌, ◌≤◌, ◌+◌, ◌-◌, ◌*◌, ℕ, zero, suc, Bool, true, false, is_some, if◌then◌else◌, List, [], ◌∷◌, ◌++◌, map, length, replicate, refl, sym, ap, ◌∙◌, subst, append-nil, arith, Option, Some, None}
+use Rattle.std.proofs.Common.{◌≡◌, ◌≤◌, ◌+◌, ◌-◌, ◌*◌, ℕ, zero, suc, true, false, is_some, List, [], ◌∷◌, ◌++◌, map, length, replicate, refl, sym, ap, ◌∙◌, subst, append-nil, arith, Option, Some, None, Ok}
 use Rattle.std.specs.Prelude.{IsSome}
 use Rattle.std.specs.List.{slice_get}
-use Rattle.std.specs.Option.{option_and_then, option_map}
+use Rattle.std.specs.Option.{option_map}
 use Rattle.wasm_store.specs.Store.{Store, found_at}
 use Rattle.wasm_store.specs.Stack.{Stack}
 use Rattle.ca_types.specs.declared.types.ValType.{ValType}
@@ -15,30 +15,22 @@ use Rattle.copy_engine.specs.Hosted.{plan_all}
 use Rattle.copy_engine.specs.Nested.{bytes_in, with_bytes_in}
 use Rattle.stream_ends.specs.declared.open_copy.OpenCopy.{OpenCopy}
 use Rattle.builtin_kinds.specs.declared.EndKind.{EndKind}
-use Rattle.builtin_kinds.specs.declared.EndKind.TheVariants as kind
 use Rattle.channels.specs.declared.channel.Channel as kept_channel
 use Rattle.handle_table.specs.Alike.{SlotAlike}
 use Rattle.comp_graph.specs.declared.graph.CanonFunc.{CanonFunc}
-use Rattle.comp_graph.specs.declared.graph.FuncRef.{FuncRef}
-use Rattle.comp_graph.specs.declared.graph.FuncRef.TheVariants as func_ref
-use Rattle.comp_graph.specs.declared.graph.Options.{Options}
 use Rattle.comp_graph.specs.Graph.{Graph}
 use Rattle.comp_graph.specs.Passed.{MayBeAt}
 use Rattle.script_reader.specs.Script.{Script}
 use Rattle.trace_show.specs.declared.label.Copied.TheVariants.{Units, Values}
 use Rattle.trace_show.specs.declared.label.Label.{Label}
-use Rattle.trace_show.specs.declared.trap.TrapName.{TrapName}
-use Rattle.instances.specs.Instances.{InstanceView}
 use Rattle.task_table.specs.declared.slot.TaskSlot.{TaskSlot}
 use Rattle.programs.specs.declared.program.Program.{Program}
-use Rattle.programs.specs.Program.{resources_of}
 use Rattle.copy_replies.specs.declared.moving.Moving.{Moving}
 use Rattle.copy_replies.specs.Moves.{completed}
 use Rattle.world_parts.specs.declared.parts.Flow.{Flow}
 use Rattle.world_parts.specs.Held as kept
 use Rattle.world_parts.specs.Held.{Held, Done, Gives, Traps, Spent, given}
 use Rattle.world_parts.specs.Channels as kept_channels
-use Rattle.world_stacks.specs.Addresses as kept_addresses
 use Rattle.value_parts.specs.Coming.{Behind}
 use Rattle.value_parts.specs.Lifting as kept_lifting
 use Rattle.value_moves.specs.declared.lowering.Destination.{Destination}
@@ -47,14 +39,13 @@ use Rattle.value_moves.specs.Transferring.{origin_of, reader_of, copied_values, 
 use Rattle.abi_machine.specs.declared.run_end.RunEnd.TheVariants.{Fuel}
 use Rattle.abi_machine.specs.LoweringOver as plans
 use Rattle.abi_machine.specs.Pausing.{entries_by}
-use Rattle.abi_machine.specs.Control.{Copying, Lowering, Lowers, Doomed, Free}
+use Rattle.abi_machine.specs.Control.{Copying, Lowering, Lowers, Free}
 use Rattle.abi_machine.specs.World.{Inst, Task, Channel, World}
 use Rattle.abi_machine.specs.Edits.{changed_at, rewritten, with_control}
-use Rattle.abi_machine.specs.Canons as canons
 use Rattle.abi_machine.specs.Canons.{memory_of, bytes_of, inst_of_canon, options_of_canon, defines}
 use Rattle.abi_machine.specs.Reading.{table_in, channel_at}
 use Rattle.abi_machine.specs.Lifting as lifting
-use Rattle.abi_machine.specs.Lifting.{Came, once_lifted}
+use Rattle.abi_machine.specs.Lifting.{Came}
 use Rattle.abi_machine.specs.Lowering.{lowered, paused, settled_turn, lowers_turn}
 use Rattle.abi_machine.specs.Next.{next}
 use Rattle.abi_machine.specs.Passing as passing
@@ -67,13 +58,13 @@ use Rattle.standing.specs.Tasks.{TaskStands}
 use Rattle.standing.specs.Agreeing.{Agrees}
 use Rattle.standing.specs.Lowers.{IsMemory}
 use Rattle.standing.specs.Reaching.{Meets}
-use Rattle.standing.specs.Leading.{ComesBy, EndsBy}
+use Rattle.standing.specs.Leading.{EndsBy}
 use Rattle.standing.proofs.Changes.{acting_is_alike}
 use Rattle.standing.proofs.Channels.{channels_are_alike}
 use Rattle.standing.proofs.EndTypes.{one_element}
 use Rattle.standing.proofs.Lists.{both_long}
 use Rattle.standing.proofs.LoweredMemories.{put_own, same_bytes, same_put}
-use Rattle.standing.proofs.Reaching.{goes_same, meets_here}
+use Rattle.standing.proofs.Reaching.{meets_here}
 use Rattle.run_laws.specs.Taking.{StandsMarked}
 use Rattle.run_laws.specs.Lifted.{Leaves, LiftAgrees}
 use Rattle.run_laws.specs.Lowered.{IsSiteOf, WordsFollow, LoweredLeads}
@@ -81,18 +72,10 @@ use Rattle.run_laws.specs.Completed.{IsRuled, end_of}
 use Rattle.run_laws.specs.Copied.{TurnLeads, GoesOver, ElementsGoOver}
 use Rattle.run_laws.proofs.Liftings.{elements_lift}
 use Rattle.run_laws.proofs.Elements.{elements_lead}
+use Rattle.run_laws.proofs.OnceLifted.{doomed_still, lifted_leads}
+use Rattle.run_laws.proofs.Sites.{memory_is, memory_there, realloc_there, at_site}
 use Rattle.run_laws.proofs.Completed.{Answers, completed_answers, copy_is_completed}
-use Rattle.run_laws.proofs.BesideElements.{IsBeside, KeepsBeside, then_beside, lowers_beside, channel_beside, AreCounted, lifted_counted, all_there, map_long, copies_long}
-
--- The memory of a destination, and the function that gives places in it.
-memory_is : (memory : Option ℕ) (s : Store) → IsMemory memory (address_or_none memory s) s
-memory_is None s = omega (arith)
-memory_is (Some address) s = refl
-
-realloc_same : (s : Store) (realloc : Option FuncRef) → option_and_then (kept_addresses.func_address s) realloc ≡ option_and_then (canons.func_address s) realloc
-realloc_same s None = refl
-realloc_same s (Some (func_ref.Instance f)) = refl
-realloc_same s (Some (func_ref.Canon number)) = refl
+use Rattle.run_laws.proofs.BesideElements.{IsBeside, KeepsBeside, then_beside, as_many, lowers_beside, channel_beside, AreCounted, lifted_counted, all_there, map_long, copies_long}
 
 -- What is written where it stands changes nothing.
 own_memory : (memory : Option ℕ) (s : Store) → rewritten (found_at s.memories memory) (bytes_of s memory) s ≡ s
@@ -182,7 +165,7 @@ module _ (p : Program) (values : List ValType) (s : Script) (h : Held) (stacks :
       let typed : IsEndsType values m.kind now.right.element before.left.end_type =
       subst (λ (c : kept_channel.Channel). IsEndsType values m.kind now.right.element c.end_type) one now.alike.typed in
       let many : length w.tasks ≡ length v.tasks =
-      sym (both_long (TaskStands g s) h.tasks w.tasks marked.stands.are_tasks) ∙ sym beside.as_many ∙ both_long (TaskStands g s) k.tasks v.tasks st.are_tasks in
+      sym (both_long (TaskStands g s) h.tasks w.tasks marked.stands.are_tasks) ∙ sym (as_many h k beside) ∙ both_long (TaskStands g s) k.tasks v.tasks st.are_tasks in
       let acts = what_there (slice_get v.tasks m.task) (there_too w.tasks v.tasks m.task many o.acts) in
       record {
         channel = now.right;
@@ -236,7 +219,7 @@ module _ (p : Program) (values : List ValType) (s : Script) (h : Held) (stacks :
       let u : World = with_control (Lowers l (plans.Gives [])) w in
       let long : length all ≡ m.count = copies_long m.count None in
       completed_leads h (with_control Free w) u (silent (Lowers l (plans.Gives [])) w) [] [] all d refl (meets_here g s u (transferring_turn (copying all) (with_control Free w)) (nothing_lowered g s w l []))
-      (sym (append-nil (h.labels ++ []) ∙ append-nil h.labels)) long (record { chain = refl; streams = refl; futures = refl; as_many = refl }) marked.stands
+      (sym (append-nil (h.labels ++ []) ∙ append-nil h.labels)) long (record { chain = refl; streams = refl; futures = refl; same_tasks = refl }) marked.stands
       (is ∙ ap (λ (n : ℕ). completed m (Units n) h) (sym long) ∙ ap (λ (element : Option ValType). completed m (copied_of element all) h) (sym none))
 
   -- Elements of a type.
@@ -275,7 +258,7 @@ module _ (p : Program) (values : List ValType) (s : Script) (h : Held) (stacks :
         chain = ap (λ (j : Held). j.chain) left.kept_rest;
         streams = ap (λ (j : Held). j.streams) left.kept_rest;
         futures = ap (λ (j : Held). j.futures) left.kept_rest;
-        as_many = left.as_many;
+        same_tasks = left.same_tasks;
       }
 
       labels_so : k.labels ≡ h.labels ++ (now.lines ++ [])
@@ -285,16 +268,10 @@ module _ (p : Program) (values : List ValType) (s : Script) (h : Held) (stacks :
       memory_same = o.reader.memory ∙ ap (λ (store : Store). memory_of store (options_of_canon reading)) (sym machine_store_kept)
 
       is_memory : IsMemory l.memory to.options.memory u.store
-      is_memory =
-          subst (λ (address : ℕ). IsMemory (memory_of v.store (options_of_canon reading)) address v.store)
-          (ap (λ (memory : Option ℕ). address_or_none memory v.store) (sym memory_same) ∙ ap (λ (store : Store). address_or_none m.reader.memory store) (sym left.stands.stands.same_store))
-          (memory_is (memory_of v.store (options_of_canon reading)) v.store)
+      is_memory = memory_there m.reader.memory (memory_of v.store (options_of_canon reading)) k.store v.store memory_same left.stands.stands.same_store
 
       realloc_is : to.options.realloc ≡ l.realloc
-      realloc_is =
-          ap (λ (store : Store). kept_addresses.realloc_of store m.reader.options) left.stands.stands.same_store
-          ∙ ap (λ (options : Options). kept_addresses.realloc_of v.store options) o.reader.options
-          ∙ realloc_same v.store (options_of_canon reading).realloc
+      realloc_is = realloc_there k.store v.store m.reader.options (options_of_canon reading) left.stands.stands.same_store o.reader.options
 
       site_of : (site : Site) (slot : TaskSlot) → slice_get k.instances to.instance ≡ Some site.instance → slice_get k.tasks to.task ≡ Some slot → site.context ≡ slot.context
           → IsSiteOf g values s u k stacks l to site slot
@@ -328,39 +305,15 @@ module _ (p : Program) (values : List ValType) (s : Script) (h : Held) (stacks :
       abbrev At : Site → Held → Done (List ℕ) → Type 0
       At site j e = LowersAt g to values (plan_all type all m.reader.place site.resources) site j e
 
-      no_site : (mid : Done (List ℕ)) → mid ≡ kept.Stuck → IsLowered mid
-      no_site mid is = subst IsLowered (sym is) (tt, tt)
-
-      at_site : (mid : Done (List ℕ)) (i : InstanceView) (slot : TaskSlot) (resources : List ℕ) (fit : Bool)
-          → slice_get k.instances to.instance ≡ Some i → slice_get k.tasks to.task ≡ Some slot → resources_of p to.instance ≡ Some resources → all_fit type all ≡ fit
-          → Behind (if fit then Gives (record { instance = i; context = slot.context; resources = resources }) k else kept.Stuck) At mid → IsLowered mid
-      at_site mid i slot resources true inst task own fits lowers =
-          let site : Site = record { instance = i; context = slot.context; resources = resources } in (
-            elements_lead g values s u k stacks l to site slot (defines g m.reader.instance) type all m.reader.place mid control_is (o.own resources own) fits (o.placed type some).aligned inside
-                (site_of site slot inst task refl) lowers,
-            lowers_beside g to values (plan_all type all m.reader.place resources) site k mid lowers,
-          )
-      at_site mid i slot resources false inst task own fits lowers = no_site mid lowers
-
       lowered_all : (mid : Done (List ℕ)) → LowersAll p to x all m.reader.place k mid → IsLowered mid
-      lowered_all mid lowers = by_inst (slice_get k.instances to.instance) refl lowers
-        where
-          by_own : (i : InstanceView) (slot : TaskSlot) → slice_get k.instances to.instance ≡ Some i → slice_get k.tasks to.task ≡ Some slot → (r : Option (List ℕ)) → resources_of p to.instance ≡ r
-              → Behind (given r (λ resources. if all_fit type all then Gives (record { instance = i; context = slot.context; resources = resources }) k else kept.Stuck)) At mid → IsLowered mid
-          by_own i slot inst task None own lowers = no_site mid lowers
-          by_own i slot inst task (Some resources) own lowers = at_site mid i slot resources (all_fit type all) inst task own refl lowers
-
-          by_task : (i : InstanceView) → slice_get k.instances to.instance ≡ Some i → (q : Option TaskSlot) → slice_get k.tasks to.task ≡ q
-              → Behind (given q (λ slot. given (resources_of p to.instance) (λ resources.
-              if all_fit type all then Gives (record { instance = i; context = slot.context; resources = resources }) k else kept.Stuck))) At mid → IsLowered mid
-          by_task i inst None task lowers = no_site mid lowers
-          by_task i inst (Some slot) task lowers = by_own i slot inst task (resources_of p to.instance) refl lowers
-
-          by_inst : (q : Option InstanceView) → slice_get k.instances to.instance ≡ q
-              → Behind (given q (λ i. given (slice_get k.tasks to.task) (λ slot. given (resources_of p to.instance) (λ resources.
-              if all_fit type all then Gives (record { instance = i; context = slot.context; resources = resources }) k else kept.Stuck)))) At mid → IsLowered mid
-          by_inst None inst lowers = no_site mid lowers
-          by_inst (Some i) inst lowers = by_task i inst (slice_get k.tasks to.task) refl lowers
+      lowered_all mid lowers =
+          at_site p to k At IsLowered mid (tt, tt) (all_fit type all)
+          (λ i slot resources inst task own fits comes.
+          (let site : Site = record { instance = i; context = slot.context; resources = resources } in (
+            elements_lead g values s u k stacks l to site slot (defines g m.reader.instance) type all m.reader.place mid control_is (o.own resources own) fits (o.placed type some).aligned inside
+                (site_of site slot inst task refl) comes,
+            lowers_beside g to values (plan_all type all m.reader.place resources) site k mid comes,
+          ))) lowers
 
       -- What follows.
       behind_lowered : (mid : Done (List ℕ)) → IsLowered mid → Behind mid (λ words j e. e ≡ completed m (copied_values x all) j) d → Leads d turn
@@ -379,7 +332,7 @@ module _ (p : Program) (values : List ValType) (s : Script) (h : Held) (stacks :
             lines = now.lines ++ [];
             world = u;
             is = refl;
-            leads = subst (λ (before : List Label). ComesBy g values s u before j stacks (λ z. z.control ≡ Doomed m.task why)) labels_so is.0;
+            leads = doomed_still g values s m.task h j stacks w u k.labels (h.labels ++ (now.lines ++ [])) why marked.stands (is.1.chain ∙ beside.chain) o.first labels_so is.0;
           })
       behind_lowered (Spent j) is follows =
           subst (λ (e : Done Flow). Leads e turn) (sym follows)
@@ -393,31 +346,10 @@ module _ (p : Program) (values : List ValType) (s : Script) (h : Held) (stacks :
     abbrev reading_turn : List Value → World → Turn
     reading_turn all later = elements_read g m.task (end_of m) call.length read reading type all later
 
-    lifted_leads : (e : Done (List Value)) (came : Came (List Value)) → LiftAgrees (Leaves g values s h stacks w) e came → AreCounted m.count came
-        → Behind e (λ all k f. Reads p m x all k f) d → Leads d (once_lifted m.task came reading_turn)
+    read_so : (came : Came (List Value)) → AreCounted m.count came → (all : List Value) (k : Held) (now : lifting.Kept) → came ≡ Ok (all, now) → Leaves g values s h stacks w k now.lines now.world
+        → Reads p m x all k d → Leads d (behind now.lines (reading_turn all now.world))
     unfolding elements_read
-    lifted_leads (Gives all k) came agrees counted reads =
-        subst (λ (c : Came (List Value)). Leads d (once_lifted m.task c reading_turn)) (sym agrees.is)
-        (reads_lead k agrees.now all agrees.leaves (subst (λ (c : Came (List Value)). AreCounted m.count c) agrees.is counted) reads)
-    lifted_leads (Traps why k) came agrees counted reads =
-        let lines : List Label = agrees.stop.lines ++ [] in
-        let last : World = with_control (Doomed m.task agrees.stop.why) agrees.stop.world in
-        subst (λ (f : Done Flow). Leads f (once_lifted m.task came reading_turn)) (sym reads)
-        (record {
-          lines = lines;
-          world = last;
-          is = ap (λ (c : Came (List Value)). once_lifted m.task c reading_turn) agrees.is;
-          leads = record {
-            lines = [];
-            world = last;
-            goes = goes_same g s last last refl;
-            stands = agrees.leaves.stands.stands;
-            told = agrees.leaves.told ∙ ap (λ (ls : List Label). h.labels ++ ls) (sym (append-nil agrees.stop.lines)) ∙ sym (append-nil (h.labels ++ lines));
-            ends = ap (λ (y : TrapName). Doomed m.task y) agrees.same_why;
-          };
-        })
-    lifted_leads (Spent k) came agrees counted reads = absurd agrees
-    lifted_leads kept.Stuck came agrees counted reads = subst (λ (f : Done Flow). Leads f (once_lifted m.task came reading_turn)) (sym reads) tt
+    read_so came counted all k now is left reads = reads_lead k now all left (subst (λ (c : Came (List Value)). AreCounted m.count c) is counted) reads
 
     elements_over : MovesElements p m x h d → Leads d (moved_by g m.task (end_of m) call read write reading writing m.count (Some type) w)
     unfolding moved_by elements_written
@@ -430,9 +362,10 @@ module _ (p : Program) (values : List ValType) (s : Script) (h : Held) (stacks :
         ap (λ (i : ℕ). passing.elements_lifted i m.task type (bytes_of w.store m.writer.memory) m.writer.place m.count w) o.writer.instance
         ∙ ap (λ (memory : Option ℕ). passing.elements_lifted (inst_of_canon writing) m.task type (bytes_of w.store memory) m.writer.place m.count w) o.writer.memory
         ∙ ap (λ (place : ℕ). passing.elements_lifted (inst_of_canon writing) m.task type (bytes_of w.store (memory_of w.store (options_of_canon writing))) place m.count w) (o.writer.place type some) in
-        lifted_leads kept_came (elements_written m.task write writing m.count type w)
+        lifted_leads g values s m.task h stacks w o.first kept_came (elements_written m.task write writing m.count type w) reading_turn (λ all k f. Reads p m x all k f) d
         (subst (λ (c : Came (List Value)). LiftAgrees (Leaves g values s h stacks w) kept_came c) same agrees)
-        (lifted_counted (inst_of_canon writing) m.task type (bytes_of w.store (memory_of w.store (options_of_canon writing))) (next_place type write) m.count w)
+        (read_so (elements_written m.task write writing m.count type w)
+        (lifted_counted (inst_of_canon writing) m.task type (bytes_of w.store (memory_of w.store (options_of_canon writing))) (next_place type write) m.count w))
         moves
       where
         no_borrow : held_borrow (Some type) ≡ true → ⊥

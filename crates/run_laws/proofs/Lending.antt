@@ -6,11 +6,12 @@ use Rattle.std.proofs.lemmas.Bool.{eqb-true, eq-eqb}
 use Rattle.std.proofs.lemmas.List.Sums.{sum_by-cons, sum_by_push}
 use Rattle.tasks.specs.Subtasks.{with_lend}
 use Rattle.comp_graph.specs.Graph.{Lifted}
-use Rattle.abi_machine.specs.World.{Subtask, Caller, Guest, Task, World}
-use Rattle.abi_machine.specs.Edits.{changed_at, caller_changed, by_view, lent}
+use Rattle.abi_machine.specs.World.{Subtask, Caller, Nobody, Host, Guest, TaskState, Task, World}
+use Rattle.abi_machine.specs.Edits.{changed_at, caller_changed, by_view, in_state, lent}
 use Rattle.abi_machine.specs.Reading.{func_of, is_in, runs_in, task_at, subtask_of}
 use Rattle.abi_machine.specs.Counting.{passes, lends_for, lends_of}
 use Rattle.abi_machine.proofs.sound.Found.{some_same}
+use Rattle.run_laws.specs.Lifted.{SameCaller, TaskStays}
 
 -- The caller's side of a call for which a handle is lent, and its task.
 abbrev pub lend_side : ℕ → ℕ → Subtask → Subtask
@@ -110,3 +111,37 @@ lent_elsewhere w callee handle at other index task subtask there guest here apar
     let more : lends_of (lent callee handle w) other index ≡ lends_of w other index + lent_more (is_here w other subtask.by) handle index =
     lends_more w callee handle other index task subtask there guest in
     omega (arith, none, more)
+
+-- A task that is in another state has the same calls.
+same_sum : {A : Type 0} (p : A → ℕ) (f : A → A) (n : ℕ) (xs : List A) → ((x : A) → p (f x) ≡ p x) → sum_by p (changed_at n f xs) ≡ sum_by p xs
+same_sum p f n [] same = refl
+same_sum p f zero (x ∷ xs) same = sum_by-cons p (f x) xs ∙ ap (λ (m : ℕ). m + sum_by p xs) (same x) ∙ sym (sum_by-cons p x xs)
+same_sum p f (suc n) (x ∷ xs) same = sum_by-cons p x (changed_at n f xs) ∙ ap (λ (m : ℕ). p x + m) (same_sum p f n xs same) ∙ sym (sum_by-cons p x xs)
+
+pub here_in_state : (w : World) (t : ℕ) (state : TaskState) (at n : ℕ) → is_here (in_state t state w) at n ≡ is_here w at n
+here_in_state w t state at n = test_kept (runs_in at) (λ task. record task { state = state }) t w.tasks n (λ x. refl)
+
+pub lends_in_state : (w : World) (t : ℕ) (state : TaskState) (at index : ℕ) → lends_of (in_state t state w) at index ≡ lends_of w at index
+lends_in_state w t state at index =
+    let count : (ℕ → Bool) → Task → ℕ = λ here x. lends_for here index (subtask_of x.caller) in
+    ap (λ (here : ℕ → Bool). sum_by (count here) (in_state t state w).tasks) (fun_ext (λ (n : ℕ). here_in_state w t state at n))
+    ∙ same_sum (count (is_here w at)) (λ task. record task { state = state }) t w.tasks (λ x. refl)
+
+-- Beside what is lent, a task stays.
+same_caller : (c : Caller) → SameCaller c c
+same_caller Nobody = refl
+same_caller (Host call all) = refl
+same_caller (Guest x) = (refl, refl, refl)
+
+pub itself_stays : (a : Task) → TaskStays a a
+itself_stays a = record { callee = refl; resolution = refl; caller = same_caller a.caller }
+
+caller_lent : (callee handle : ℕ) (c d : Caller) → SameCaller c d → SameCaller c (caller_changed (lend_side callee handle) d)
+caller_lent callee handle Nobody d same = ap (λ (x : Caller). caller_changed (lend_side callee handle) x) same
+caller_lent callee handle (Host call all) d same = ap (λ (x : Caller). caller_changed (lend_side callee handle) x) same
+caller_lent callee handle (Guest x) Nobody same = absurd same
+caller_lent callee handle (Guest x) (Host call all) same = absurd same
+caller_lent callee handle (Guest x) (Guest y) same = same
+
+pub lent_stays : (callee handle : ℕ) (a b : Task) → TaskStays a b → TaskStays a (lend_in callee handle b)
+lent_stays callee handle a b st = record { callee = st.callee; resolution = st.resolution; caller = caller_lent callee handle a.caller b.caller st.caller }

@@ -25,8 +25,6 @@ use Rattle.value_lift.proofs.WordStood.{flat_of_tuple}
 use Rattle.value_lift.proofs.BesideTypes.{loads_alike, lists_alike, words_alike}
 use Rattle.value_lift.proofs.Beside.{Carries, AllCarry}
 use Rattle.value_lift.proofs.Carried.{carried_same, all_carried_same}
-use Rattle.comp_graph.specs.declared.graph.CanonFunc.{CanonFunc}
-use Rattle.comp_graph.specs.declared.graph.CanonFunc.TheVariants as canon
 use Rattle.comp_graph.specs.declared.graph.Options.{Options}
 use Rattle.comp_graph.specs.Graph.{Graph}
 use Rattle.graph_views.specs.Canons as seen_canons
@@ -57,13 +55,15 @@ use Rattle.abi_machine.specs.Passing.{params_type, passed_limit}
 use Rattle.abi_machine.specs.Entering as entering
 use Rattle.abi_machine.specs.Returning as returning
 use Rattle.abi_machine.proofs.sound.Lifts as lifts
+use Rattle.standing.proofs.InPlace.{makers_alike}
 use Rattle.standing.proofs.Lists.{set_same}
 use Rattle.standing.proofs.Found.{word_is}
 use Rattle.standing.proofs.Memories.{bytes_alike}
 use Rattle.run_laws.specs.Taking.{StandsMarked, CalledFrom}
-use Rattle.run_laws.specs.Lifted.{Leaves, LiftAgrees, LendsFrom, ArgumentsLift, ResultsLift, ElementsLift}
+use Rattle.run_laws.specs.Lifted.{TaskStays, Leaves, LiftAgrees, LendsFrom, ArgumentsLift, ResultsLift, ElementsLift}
 use Rattle.run_laws.proofs.Canons.{options_same}
-use Rattle.run_laws.proofs.Moved.{slotted, over, slotted_is, moved_over}
+use Rattle.run_laws.proofs.Lending.{itself_stays}
+use Rattle.run_laws.proofs.Moved.{all_same, slotted, over, slotted_is, moved_over}
 use Rattle.run_laws.proofs.LiftedLayers.{IsFront}
 use Rattle.run_laws.proofs.LiftedOver.{load_same, load_list_same, lift_flat_same}
 use Rattle.run_laws.proofs.Ledgers.{Halted, by_types, types_same, halting, halting_world, halts_same, GoesWith, StopsWith, itself, halting_beside, OnlyLent, load_only, load_list_only, lift_flat_only}
@@ -102,7 +102,8 @@ module _ (g : Graph) (values : List ValType) (s : Script) (h : Held) (stacks : L
     told = sym (append-nil h.labels);
     kept_rest = refl;
     world_rest = refl;
-    as_many = refl;
+    same_tasks = refl;
+    tasks_stay = all_same TaskStays w.tasks itself_stays;
   }
 
   module _ (c : Bool) (lends : c ≡ true → CalledFrom w from.at from.callee) where
@@ -284,7 +285,7 @@ all_flat : (params : List Param) → all_of (map flat (map (λ (p : Param). p.va
 all_flat [] = refl
 all_flat (p ∷ params) = ap (λ (ts : List CoreType). flat p.val_type ++ ts) (all_flat params)
 
-flat_is_params : (f : FuncType) → flat (params_type f) ≡ flat_params f
+pub flat_is_params : (f : FuncType) → flat (params_type f) ≡ flat_params f
 flat_is_params f = flat_of_tuple (map (λ (p : Param). p.val_type) f.params) ∙ all_flat f.params
 
 module _ (g : Graph) (values : List ValType) (s : Script) (h : Held) (stacks : List (List Stack)) (w : World) (marked : StandsMarked g values s h stacks w) where
@@ -296,7 +297,7 @@ module _ (g : Graph) (values : List ValType) (s : Script) (h : Held) (stacks : L
 
   -- nothing was lifted
   nothing_left : Left h [] w
-  nothing_left = record { stands = marked; told = sym (append-nil h.labels); kept_rest = refl; world_rest = refl; as_many = refl }
+  nothing_left = record { stands = marked; told = sym (append-nil h.labels); kept_rest = refl; world_rest = refl; same_tasks = refl; tasks_stay = all_same TaskStays w.tasks itself_stays }
 
   module _ (from : Origin) (t : Numbered) (same : t.types ≡ values) (lends : LendsFrom w from.at from.callee (Some t.val_type)) where
     abbrev bytes : List ℕ
@@ -378,11 +379,6 @@ module _ (g : Graph) (values : List ValType) (s : Script) (h : Held) (stacks : L
         let taken = length-take many words in
         flat_agrees what (take many words) words (front_of many words) (omega (arith, least, taken)))))
 
--- Canonical functions.
-instance_same : (c : CanonFunc) → seen_canons.instance_of c ≡ inst_of_canon c
-instance_same (canon.Lower l) = refl
-instance_same (canon.Builtin b) = refl
-
 pub elements_lift : ElementsLift
 unfolding passing.elements_lifted
 elements_lift g values s h stacks w from type place count same lends marked = elements_agree g values s h stacks w marked from type same lends place count
@@ -414,7 +410,7 @@ arguments_lift g values s h stacks w t f subtask c type same is_params memory le
     (λ (i : ℕ). LiftAgrees L
     (if tuple_case (out-ValType type.val_type)
     then value_lifted (record { at = i; callee = t; memory = places.memory_of options h }) whole.Arguments limit type subtask.words h
-    else kept.Stuck) (lifted (params_type f.func_type) (length (flat_params f.func_type)) bytes)) (sym (instance_same c))
+    else kept.Stuck) (lifted (params_type f.func_type) (length (flat_params f.func_type)) bytes)) (sym (makers_alike c))
     (only_if L (tuple_case (out-ValType type.val_type)) (value_lifted from whole.Arguments limit type subtask.words h)
     (lifted (params_type f.func_type) (length (flat_params f.func_type)) bytes) passed))
 

@@ -1,17 +1,14 @@
 -- Values that are lowered over what is kept.
-use Rattle.std.proofs.Common.{◌≡◌, ◌⊎◌, inl, inr, ◌+◌, ℕ, zero, suc, List, [], ◌∷◌, ◌++◌, slice_set, refl, sym, ap, ◌∙◌, subst, arith, append_assoc, append-nil, Option, Some, None}
+use Rattle.std.proofs.Common.{◌≡◌, ◌⊎◌, inl, inr, ℕ, zero, suc, List, [], ◌∷◌, ◌++◌, slice_set, refl, sym, ap, ◌∙◌, subst, arith, append_assoc, append-nil, Option, Some, None}
 use Rattle.std.specs.List.{slice_get, AllZip}
 use Rattle.wasm_store.specs.Stack.{Stack}
 use Rattle.ca_types.specs.declared.types.ValType.{ValType}
-use Rattle.handle_table.specs.History.{Event}
-use Rattle.res_handles.specs.declared.refusal.Refusal.{Refusal}
 use Rattle.value_lower.specs.declared.ends.LowerWhy.{LowerWhy}
 use Rattle.value_lower.specs.declared.ends.LowerWhy.TheVariants as lower_why
 use Rattle.value_lower.specs.Plan as lower
 use Rattle.value_lower.specs.Tables.{IsEntry}
 use Rattle.copy_engine.specs.declared.acts.Act.{Act}
 use Rattle.copy_engine.specs.declared.answering.CallRefusal.TheVariants as refusal
-use Rattle.copy_engine.specs.declared.hosted.HostedRoom.{HostedRoom}
 use Rattle.copy_engine.specs.declared.hosted.HostedTrap.TheVariants as hosted
 use Rattle.copy_engine.specs.declared.lower_values.Lowered.{Lowered}
 use Rattle.copy_engine.specs.declared.lower_values.Lowered.TheVariants as lowered
@@ -43,14 +40,12 @@ use Rattle.value_moves.specs.Lowering.{Site, begun_at, left_at, setting_in, got_
 use Rattle.abi_machine.specs.LoweringOver as machine
 use Rattle.abi_machine.specs.Traps.{core_name, lower_name, refusal_name}
 use Rattle.abi_machine.specs.Control.{Control, Free, Lowering, Lowers, Doomed}
-use Rattle.abi_machine.specs.World.{Entry, Inst, Task, World}
+use Rattle.abi_machine.specs.World.{World}
 use Rattle.abi_machine.specs.Canons.{builtin_of, canon_at}
-use Rattle.abi_machine.specs.Run.{RunsFrom}
 use Rattle.standing.specs.Instances.{InstStands}
 use Rattle.standing.specs.Tasks.{TaskStands}
 use Rattle.standing.specs.Stands.{Stands}
 use Rattle.standing.specs.Reaching.{GoesTo}
-use Rattle.standing.specs.Leading.{ComesBy}
 use Rattle.standing.specs.Lowers.{why_as, got_lines, act_lines, all_lines, room_at, lowered_held, PlanAgrees, LowersTo}
 use Rattle.standing.proofs.Lists.{BothAt, at_both}
 use Rattle.standing.proofs.Agreeing.{get_set}
@@ -59,7 +54,7 @@ use Rattle.standing.proofs.Restacking.{lowered_stands}
 use Rattle.standing.proofs.TaskRuns.{traps_alike}
 use Rattle.standing.proofs.InPlace.{builtins_alike}
 use Rattle.standing.proofs.Lowers.{lowerings_lead}
-use Rattle.run_laws.specs.Lowered.{IsSiteOf, WordsFollow, LoweredLeads, LowersAtLeads}
+use Rattle.run_laws.specs.Lowered.{IsSiteOf, LoweredLeads, LowersAtLeads}
 
 -- What stands for something that is kept at a place.
 pub record IsThere {A B : Type 0} (R : A → B → Type 0) (x : A) (o : Option B) : Type 0 where
@@ -75,7 +70,7 @@ by_left : {A B : Type 0} (R : A → B → Type 0) (xs : List A) (ys : List B) (n
 by_left R xs ys n x all e = there R x (slice_get ys n) (subst (λ o. BothAt R o (slice_get ys n)) e (at_both R xs ys n all))
 
 -- What is written twice is written once.
-pub set_twice : {A : Type 0} (xs : List A) (n : ℕ) (x y : A) → slice_set (slice_set xs n x) n y ≡ slice_set xs n y
+set_twice : {A : Type 0} (xs : List A) (n : ℕ) (x y : A) → slice_set (slice_set xs n x) n y ≡ slice_set xs n y
 set_twice [] n x y = refl
 set_twice (a ∷ xs) zero x y = refl
 set_twice (a ∷ xs) (suc n) x y = ap (λ zs. a ∷ zs) (set_twice xs n x y)

@@ -1,6 +1,6 @@
 -- What lifting moved in the table of an instance, over what is kept: the slots of the table are of no account to it, and what moved last comes last.
-use Rattle.std.proofs.Common.{◌≡◌, ◌+◌, ℕ, zero, suc, Bool, true, false, if◌then◌else◌, List, [], ◌∷◌, ◌++◌, length, slice_set, refl, sym, ap, ◌∙◌, Option, Some, None}
-use Rattle.std.specs.List.{slice_get}
+use Rattle.std.proofs.Common.{◌≡◌, ◌+◌, ℕ, zero, suc, Bool, true, false, if◌then◌else◌, List, [], ◌∷◌, ◌++◌, map, slice_set, refl, sym, ap, ◌∙◌, Option, Some, None}
+use Rattle.std.specs.List.{slice_get, AllZip}
 use Rattle.handle_table.specs.Slots.{Slots}
 use Rattle.trace_show.specs.declared.label.Label.TheVariants as line
 use Rattle.value_lift.specs.declared.moved.Moved.{Moved}
@@ -15,6 +15,7 @@ use Rattle.world_parts.specs.Feed.{told}
 use Rattle.world_parts.specs.Slots.{with_task}
 use Rattle.value_parts.specs.Loans.{may_lend, lent_slot, lend_kept, lent, one_moved, all_moved}
 use Rattle.abi_machine.specs.Edits.{changed_at}
+use Rattle.abi_machine.proofs.sound.Found.{some_same}
 
 -- An item that is there is another one.
 pub set_is_change : {A : Type 0} (f : A → A) (xs : List A) (n : ℕ) (x : A) → slice_get xs n ≡ Some x → slice_set xs n (f x) ≡ changed_at n f xs
@@ -43,10 +44,23 @@ change_on_set f [] n y = refl
 change_on_set f (x ∷ xs) zero y = refl
 change_on_set {A} f (x ∷ xs) (suc n) y = ap (λ (ys : List A). x ∷ ys) (change_on_set f xs n y)
 
-pub set_long : {A : Type 0} (xs : List A) (n : ℕ) (y : A) → length (slice_set xs n y) ≡ length xs
-set_long [] n y = refl
-set_long (x ∷ xs) zero y = refl
-set_long (x ∷ xs) (suc n) y = ap suc (set_long xs n y)
+-- What is seen of items, where one is written that looks like the one before.
+pub seen_set : {A B : Type 0} (see : A → B) (xs : List A) (n : ℕ) (x y : A) → slice_get xs n ≡ Some x → see y ≡ see x → map see (slice_set xs n y) ≡ map see xs
+seen_set see [] n x y there same = refl
+seen_set see (z ∷ xs) zero x y there same = ap (λ v. v ∷ map see xs) (same ∙ ap see (sym (some_same there)))
+seen_set see (z ∷ xs) (suc n) x y there same = ap (λ vs. see z ∷ vs) (seen_set see xs n x y there same)
+
+-- Each item stands for itself, and for the other one that is changed.
+pub all_same : {A : Type 0} (R : A → A → Type 0) (xs : List A) → ((x : A) → R x x) → AllZip R xs xs
+all_same R [] same = tt
+all_same R (x ∷ xs) same = (same x, all_same R xs same)
+
+pub right_changed : {A B : Type 0} (R : A → B → Type 0) (xs : List A) (ys : List B) (n : ℕ) (f : B → B) → ((x : A) (y : B) → R x y → R x (f y)) → AllZip R xs ys → AllZip R xs (changed_at n f ys)
+right_changed R [] [] n f keeps all = tt
+right_changed R [] (y ∷ ys) n f keeps all = absurd all
+right_changed R (x ∷ xs) [] n f keeps all = absurd all
+right_changed R (x ∷ xs) (y ∷ ys) zero f keeps all = (keeps x y all.0, all.1)
+right_changed R (x ∷ xs) (y ∷ ys) (suc n) f keeps all = (all.0, right_changed R xs ys n f keeps all.1)
 
 -- What is kept with these slots in the table of an instance.
 abbrev pub slotted : ℕ → Slots WorldEntry → Held → Held

@@ -1,10 +1,9 @@
 -- Where the acting task's stack is to run.
-use Rattle.std.proofs.Common.{◌≡◌, ℕ, zero, suc, List, [], ◌∷◌, ◌++◌, map, length, slice_set, refl, sym, ap, ◌∙◌, subst, append-nil, Option, Some, None}
+use Rattle.std.proofs.Common.{◌≡◌, ℕ, zero, suc, List, [], ◌∷◌, map, slice_set, refl, sym, ap, ◌∙◌, subst, append-nil, Option, Some, None}
 use Rattle.std.specs.List.{slice_get}
 use Rattle.std.specs.Option.{option_map}
 use Rattle.wasm_store.specs.Store.{found_at}
 use Rattle.wasm_store.specs.Stack.{Stack}
-use Rattle.wasm_execution.specs.Run.{RunGives}
 use Rattle.wasm_execution.specs.declared.running.Outcome.{Outcome}
 use Rattle.wasm_execution.specs.declared.running.Outcome.TheVariants as outcome
 use Rattle.ca_types.specs.declared.types.ValType.{ValType}
@@ -13,28 +12,26 @@ use Rattle.script_reader.specs.Script.{Script}
 use Rattle.trace_show.specs.declared.label.Label.{Label}
 use Rattle.trace_show.specs.declared.trap.TrapName.{TrapName}
 use Rattle.world_parts.specs.declared.parts.Rest.{Rest}
-use Rattle.world_parts.specs.declared.parts.Rest.TheVariants as rest
 use Rattle.world_parts.specs.Held as kept
 use Rattle.world_parts.specs.Held.{Held, Done, Gives, Traps, Spent}
 use Rattle.world_stacks.specs.declared.top.Top.{Top}
 use Rattle.world_stacks.specs.declared.top.Top.TheVariants as top
 use Rattle.world_stacks.specs.Views.{PileView, stacks_of}
 use Rattle.world_stacks.specs.Piles.{with_top}
-use Rattle.value_parts.specs.declared.to_pass.Passing.TheVariants as passing
 use Rattle.value_parts.specs.Coming.{Behind}
 use Rattle.machine_runs.specs.declared.stepping.Step.{Step}
 use Rattle.machine_runs.specs.declared.stepping.Step.TheVariants as step
 use Rattle.machine_runs.specs.Moving.{acting_of}
 use Rattle.machine_runs.specs.Stepping.{outcome_done, TopComes, passing_behind, PileSteps, TaskSteps}
-use Rattle.abi_machine.specs.declared.run_end.RunEnd.TheVariants.{Fuel, Trapped}
-use Rattle.abi_machine.specs.Control.{Control, Free, Runs, Doomed}
+use Rattle.abi_machine.specs.declared.run_end.RunEnd.TheVariants.{Fuel}
+use Rattle.abi_machine.specs.Control.{Control, Free, Runs}
 use Rattle.abi_machine.specs.World.{Task, World}
 use Rattle.abi_machine.specs.Edits.{with_control}
-use Rattle.abi_machine.specs.Reading.{acting, func_of, kind_of}
+use Rattle.abi_machine.specs.Reading.{func_of, kind_of}
 use Rattle.abi_machine.specs.Turn as turns
 use Rattle.abi_machine.specs.Turn.{Turn, Ends, behind}
 use Rattle.abi_machine.specs.CoreSteps.{func_ended}
-use Rattle.abi_machine.specs.Next.{next, next_by}
+use Rattle.abi_machine.specs.Next.{next_by}
 use Rattle.abi_machine.specs.Run.{lines_of}
 use Rattle.standing.specs.Stands.{Stands}
 use Rattle.standing.specs.Agreeing.{acting_words, control_of, control_at}
@@ -42,16 +39,16 @@ use Rattle.standing.specs.Leading.{ComesBy, EndsBy, IsDoomed}
 use Rattle.standing.specs.TaskRuns.{func_turn, FuncEnds, AfterRun, RunLeads, OutcomeLeads, RunsPile}
 use Rattle.standing.proofs.Changes.{acting_is_alike}
 use Rattle.standing.proofs.TaskRuns.{task_runs_lead}
-use Rattle.run_laws.specs.Points.{ended, pending, AtRest, InPoint, stacks_at, ReachesPoint, ReachesTurn, StepAgrees}
+use Rattle.run_laws.specs.Points.{ended, stacks_at}
 use Rattle.run_laws.specs.Runs.{RuleAgrees, RunStepsAgree}
 
 -- What is seen of items, where one is another, and at a place.
-map_set : {A B : Type 0} (f : A → B) (xs : List A) (n : ℕ) (y : A) → slice_set (map f xs) n (f y) ≡ map f (slice_set xs n y)
+pub map_set : {A B : Type 0} (f : A → B) (xs : List A) (n : ℕ) (y : A) → slice_set (map f xs) n (f y) ≡ map f (slice_set xs n y)
 map_set f [] n y = refl
 map_set f (x ∷ xs) zero y = refl
 map_set f (x ∷ xs) (suc n) y = ap (λ ys. f x ∷ ys) (map_set f xs n y)
 
-map_at : {A B : Type 0} (f : A → B) (xs : List A) (n : ℕ) (x : A) → slice_get xs n ≡ Some x → slice_get (map f xs) n ≡ Some (f x)
+pub map_at : {A B : Type 0} (f : A → B) (xs : List A) (n : ℕ) (x : A) → slice_get xs n ≡ Some x → slice_get (map f xs) n ≡ Some (f x)
 map_at f [] n x e = absurd (cc)
 map_at f (y ∷ xs) zero x e = let same : y ≡ x = cc in ap (λ z. Some (f z)) same
 map_at f (y ∷ xs) (suc n) x e = map_at f xs n x e

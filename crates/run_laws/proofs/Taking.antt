@@ -38,7 +38,6 @@ use Rattle.task_table.specs.declared.caller.Caller as kept_caller
 use Rattle.task_table.specs.declared.caller.Caller.TheVariants as by
 use Rattle.task_table.specs.declared.slot.TaskSlot.{TaskSlot}
 use Rattle.task_table.specs.Callers as callers
-use Rattle.channels.specs.declared.channel.Channel as kept
 use Rattle.world_parts.specs.Held.{Held}
 use Rattle.world_parts.specs.Entries.{with_instance}
 use Rattle.world_parts.specs.Slots.{with_task}
@@ -67,7 +66,7 @@ use Rattle.run_laws.specs.Taking.{LendsMarked, StandsMarked, ViewsAreAlike, EndT
 use Rattle.run_laws.proofs.Lending.{lend_side, lend_in, lent_once, lent_other, lent_elsewhere}
 
 -- Types of ends are the same exactly where their kinds and elements are.
-held_told : (a b : Option ValType) → same_held a b ≡ true → a ≡ b
+pub held_told : (a b : Option ValType) → same_held a b ≡ true → a ≡ b
 held_told None b h = (none_told b).0 h
 held_told (Some t) b h = (some_told (same_val t) t (val_told t) b).0 h
 
@@ -237,7 +236,7 @@ left_entry i index j e is =
     ]
 
 -- Marks of lends, where an instance has become another one whose entries were there.
-lends_kept : (instances : List InstanceView) (w v : World) (at : ℕ) (i k : InstanceView) → slice_get instances at ≡ Some i
+pub lends_kept : (instances : List InstanceView) (w v : World) (at : ℕ) (i k : InstanceView) → slice_get instances at ≡ Some i
     → ((j : ℕ) (e : WorldEntry) → entry_of k j ≡ Some e → entry_of i j ≡ Some e) → ((n j : ℕ) → lends_of v n j ≡ lends_of w n j) → LendsMarked instances w
     → LendsMarked (slice_set instances at k) v
 lends_kept instances w v at i k there keeps same marks n j y x found is =

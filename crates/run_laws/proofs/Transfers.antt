@@ -18,7 +18,7 @@ use Rattle.comp_graph.specs.declared.graph.CanonFunc.{CanonFunc}
 use Rattle.comp_graph.specs.declared.graph.Options.{Options}
 use Rattle.comp_graph.specs.Graph.{Graph}
 use Rattle.comp_graph.specs.Passed.{MayBeAt}
-use Rattle.graph_views.specs.Canons.{canon_at, instance_of, options_of}
+use Rattle.graph_views.specs.Canons.{canon_at, instance_of}
 use Rattle.instances.specs.declared.entry.EndEntry.{EndEntry}
 use Rattle.instances.specs.declared.entry.WorldEntry.{WorldEntry}
 use Rattle.instances.specs.declared.entry.WorldEntry.TheVariants as entry

@@ -77,7 +77,7 @@ lines_more [] lines = append-nil lines
 lines_more (labels ∷ steps) lines = ap (λ xs. labels ++ xs) (lines_more steps lines) ∙ sym (append_assoc labels (lines_of steps) lines)
 
 -- What a part that rests comes to.
-rest_step : {A : Type 0} (g : Graph) (values : List ValType) (s : Script) (t : ℕ) (piles : List PileView) (w mid : World) (steps : List (List Label)) (before : List Label) (d : Done A) (u : Turn)
+pub rest_step : {A : Type 0} (g : Graph) (values : List ValType) (s : Script) (t : ℕ) (piles : List PileView) (w mid : World) (steps : List (List Label)) (before : List Label) (d : Done A) (u : Turn)
     (P : Held → List PileView) (a : AgreesMade g values s t before (stacks_at piles) (resting d) u)
     → Reaches g s w steps mid → lines_of steps ≡ before → next g s mid ≡ u → Costs before d → ((k : Held) → length a.0 ≡ length k.tasks → stacks_at (P k) ≡ a.0)
     → StepAgrees g values s [] w (after d (λ x k. Gives (step.GoesOn passing.Nothing, P k) k))
@@ -111,7 +111,7 @@ one_longer (y ∷ xs) x = let more : length (xs ++ x ∷ []) ≡ length xs + 1 =
 piles_long : (piles : List PileView) → length (stacks_at piles) ≡ length piles
 piles_long piles = length-map piles stacks_of
 
-piles_grow : (piles : List PileView) (now : List (List Stack)) (count : ℕ) → MayGrow (stacks_at piles) now → length now ≡ count → stacks_at (with_piles count piles) ≡ now
+pub piles_grow : (piles : List PileView) (now : List (List Stack)) (count : ℕ) → MayGrow (stacks_at piles) now → length now ≡ count → stacks_at (with_piles count piles) ≡ now
 piles_grow piles now count grow long = elim grow [
   | inl same ↦
       let few : count ≤ length piles =

@@ -58,10 +58,10 @@ use Rattle.abi_machine.proofs.sound.Found.{some_same}
 use Rattle.standing.proofs.Agreeing.{get_set}
 use Rattle.standing.proofs.Found.{names_same}
 use Rattle.run_laws.specs.Taking.{StandsMarked, CalledFrom}
-use Rattle.run_laws.specs.Lifted.{Leaves}
-use Rattle.run_laws.proofs.Lending.{lend_side, lend_in, here_kept}
+use Rattle.run_laws.specs.Lifted.{TaskStays, Leaves}
+use Rattle.run_laws.proofs.Lending.{lend_side, lend_in, lent_stays, here_kept}
 use Rattle.run_laws.proofs.Taking.{views_are_alike, end_answer, handle_leaves, end_leaves, handle_is_lent}
-use Rattle.run_laws.proofs.Moved.{set_is_change, get_changed, get_changed_none, set_on_change, change_on_set, set_long, slotted, moved_to, moved_stuck, lent_to, not_lent, taken_to}
+use Rattle.run_laws.proofs.Moved.{set_is_change, get_changed, get_changed_none, set_on_change, change_on_set, seen_set, right_changed, slotted, moved_to, moved_stuck, lent_to, not_lent, taken_to}
 use Rattle.run_laws.proofs.Ledgers.{Halted, faulted, halted, unless_lent, halting, world_taken, itself}
 
 pub lifts_same : (why : LiftWhy) → lift_name why ≡ part_names.lift_name why
@@ -254,7 +254,8 @@ module _ (g : Graph) (values : List ValType) (s : Script) (h : Held) (stacks : L
             told = b.leaves.told;
             kept_rest = rest_kept now (changed_at at (with_slots slots) b.base.instances) b.base.tasks b.base.labels b.leaves.kept_rest;
             world_rest = ap (λ (v : World). world.entry_removed at index v) b.leaves.world_rest;
-            as_many = b.leaves.as_many;
+            same_tasks = b.leaves.same_tasks;
+            tasks_stay = b.leaves.tasks_stay;
           };
           lender = b.lender;
           from = b.from;
@@ -283,7 +284,8 @@ module _ (g : Graph) (values : List ValType) (s : Script) (h : Held) (stacks : L
             told = b.leaves.told;
             kept_rest = rest_kept now (changed_at at (with_slots slots) base.instances) b.base.tasks b.base.labels b.leaves.kept_rest;
             world_rest = ap (λ (v : World). world.left_set at index (world.entry_removed at index v)) b.leaves.world_rest;
-            as_many = b.leaves.as_many;
+            same_tasks = b.leaves.same_tasks;
+            tasks_stay = b.leaves.tasks_stay;
           };
           lender = b.lender;
           from = b.from;
@@ -314,7 +316,8 @@ module _ (g : Graph) (values : List ValType) (s : Script) (h : Held) (stacks : L
                 ∙ append_assoc h.labels t.lines (line.Lend (at + 1) index callee ∷ []);
             kept_rest = rest_kept now (changed_at at (with_slots slots) b.base.instances) tasks labels b.leaves.kept_rest;
             world_rest = ap (λ (v : World). world.lent callee index v) b.leaves.world_rest;
-            as_many = set_long b.base.tasks callee (lent_slot index lender.slot) ∙ b.leaves.as_many;
+            same_tasks = seen_set (λ (slot : TaskSlot). slot.callee) b.base.tasks callee lender.slot (lent_slot index lender.slot) lender.is refl ∙ b.leaves.same_tasks;
+            tasks_stay = right_changed TaskStays w.tasks t.world.tasks callee (lend_in callee index) (λ x y stays. lent_stays callee index x y stays) b.leaves.tasks_stay;
           };
           lender = ap (λ (o : Option TaskSlot). may_lend_in o) (get_set b.base.tasks callee lender.slot (lent_slot index lender.slot) lender.is)
               ∙ still_lends index lender.slot.caller ∙ ap (λ (o : Option TaskSlot). may_lend_in o) (sym lender.is) ∙ b.lender;

@@ -22,7 +22,6 @@ use Rattle.world_parts.specs.Held as kept
 use Rattle.world_parts.specs.Held.{Held, Done, Gives, Traps, Spent}
 use Rattle.value_moves.specs.Transferring.{reader_of, MovesOver}
 use Rattle.abi_machine.specs.declared.run_end.RunEnd.TheVariants.{Fuel}
-use Rattle.abi_machine.specs.Control.{Doomed}
 use Rattle.abi_machine.specs.World.{Channel, World}
 use Rattle.abi_machine.specs.Canons.{memory_of, inst_of_canon, options_of_canon, defines}
 use Rattle.abi_machine.specs.Reading.{channel_at}
@@ -30,7 +29,7 @@ use Rattle.abi_machine.specs.Copying.{next_place, task_by, moved_by}
 use Rattle.abi_machine.specs.Turn.{Turn, Steps}
 use Rattle.standing.specs.Agreeing.{Agrees}
 use Rattle.standing.specs.Reaching.{Meets}
-use Rattle.standing.specs.Leading.{ComesBy, EndsBy}
+use Rattle.standing.specs.Leading.{ComesBy, EndsBy, IsDoomed}
 use Rattle.standing.specs.Plans.{AreOwn}
 use Rattle.run_laws.specs.Taking.{StandsMarked}
 use Rattle.run_laws.specs.Completed.{end_of}
@@ -52,7 +51,7 @@ pub record FlowFollows (g : Graph) (values : List ValType) (s : Script) (t : ℕ
 abbrev pub TurnLeads : Graph → List ValType → Script → ℕ → List Label → List (List Stack) → Done Flow → Turn → Type 0
 TurnLeads g values s t before stacks (Gives flow k) turn = StepLeads turn (λ lines w. FlowFollows g values s t (before ++ lines) stacks (Gives flow k) w)
 TurnLeads g values s t before stacks (Traps why k) turn =
-    StepLeads turn (λ lines w. ComesBy g values s w (before ++ lines) k stacks (λ v. v.control ≡ Doomed t why))
+    StepLeads turn (λ lines w. ComesBy g values s w (before ++ lines) k stacks (IsDoomed t why))
 TurnLeads g values s t before stacks (Spent k) turn = StepLeads turn (λ lines w. EndsBy g values s w (before ++ lines) k stacks Fuel)
 TurnLeads g values s t before stacks kept.Stuck turn = Unit {0}
 

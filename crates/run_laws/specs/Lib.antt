@@ -13,3 +13,9 @@ pub mod Elements
 pub mod Completed
 pub mod Copied
 pub mod Transfers
+pub mod Entered
+pub mod Results
+pub mod AsyncEnds
+pub mod Destructors
+pub mod Passings
+pub mod Steps

@@ -1,8 +1,8 @@
 -- Values that are lifted over what is kept (Component Model, CanonicalABI.md, "Loading", "Flat Lifting", `canon lift`, `canon lower`, `canon
 -- task.return`, `canon stream.write`): what that comes to is what the machine lifts in a world for which what is kept stands, and what is kept then
 -- stands for the world then. The first index that is refused, or the first part that stands for nothing, is the same trap on both sides.
-use Rattle.std.specs.Prelude.{◌≡◌, ℕ, true, List, ◌++◌, length, Option, Some, Ok, Err}
-use Rattle.std.specs.List.{slice_get}
+use Rattle.std.specs.Prelude.{◌≡◌, ℕ, true, List, ◌++◌, map, Option, Some, Ok, Err}
+use Rattle.std.specs.List.{slice_get, AllZip}
 use Rattle.wasm_store.specs.Stack.{Stack}
 use Rattle.ca_types.specs.declared.types.ValType.{ValType}
 use Rattle.laid_types.specs.Handles.{held_borrow}
@@ -14,6 +14,7 @@ use Rattle.comp_graph.specs.Passed.{MayBeAt}
 use Rattle.script_reader.specs.Script.{Script}
 use Rattle.trace_show.specs.declared.label.Label.{Label}
 use Rattle.trace_show.specs.declared.trap.TrapName.{TrapName}
+use Rattle.task_table.specs.declared.errand.Callee.{Callee}
 use Rattle.task_table.specs.declared.slot.TaskSlot.{TaskSlot}
 use Rattle.programs.specs.declared.program.Program.{Program}
 use Rattle.world_parts.specs.Held as kept
@@ -21,7 +22,7 @@ use Rattle.world_parts.specs.Held.{Held, Done, Gives, Traps, Spent}
 use Rattle.value_parts.specs.declared.lifting.Origin.{Origin}
 use Rattle.value_parts.specs.Lifting as kept_lifting
 use Rattle.value_parts.specs.Passing as kept_passing
-use Rattle.abi_machine.specs.World.{Subtask, World}
+use Rattle.abi_machine.specs.World.{Caller, Nobody, Host, Guest, Subtask, Task, World}
 use Rattle.abi_machine.specs.Canons.{memory_of, bytes_of, inst_of_canon, options_of_canon}
 use Rattle.abi_machine.specs.Lifting as lifting
 use Rattle.abi_machine.specs.Lifting.{Came}
@@ -32,15 +33,33 @@ use Rattle.abi_machine.specs.Returning as returning
 use Rattle.standing.specs.Ends.{HasMemory}
 use Rattle.run_laws.specs.Taking.{StandsMarked, CalledFrom}
 
--- What is kept behind a lifting stands for the world behind it, with the same lines. Only tables, sets, and what calls lent have changed, and there are
--- as many tasks.
+-- what tasks do
+abbrev pub callees_of : List TaskSlot → List Callee
+callees_of tasks = map (λ (slot : TaskSlot). slot.callee) tasks
+
+-- A task that differs from another one in its state, or in what is lent for its call, at most.
+abbrev pub SameCaller : Caller → Caller → Type 0
+SameCaller Nobody b = b ≡ Nobody
+SameCaller (Host call all) b = b ≡ Host call all
+SameCaller (Guest x) Nobody = ⊥
+SameCaller (Guest x) (Host call all) = ⊥
+SameCaller (Guest x) (Guest y) = (y.by ≡ x.by) × (y.canon ≡ x.canon) × (y.words ≡ x.words)
+
+pub record TaskStays (a b : Task) : Type 0 where
+  pub callee : b.callee ≡ a.callee
+  pub resolution : b.resolution ≡ a.resolution
+  pub caller : SameCaller a.caller b.caller
+
+-- What is kept behind a lifting stands for the world behind it, with the same lines. Only tables, sets, and what calls lent have changed, and the tasks do
+-- what they did.
 pub record Leaves
     (g : Graph) (values : List ValType) (s : Script) (h : Held) (stacks : List (List Stack)) (w : World) (k : Held) (lines : List Label) (v : World) : Type 0 where
   pub stands : StandsMarked g values s k stacks v
   pub told : k.labels ≡ h.labels ++ lines
   pub kept_rest : k ≡ record h { instances = k.instances; tasks = k.tasks; labels = k.labels }
   pub world_rest : v ≡ record w { insts = v.insts; tasks = v.tasks }
-  pub as_many : length k.tasks ≡ length h.tasks
+  pub same_tasks : callees_of k.tasks ≡ callees_of h.tasks
+  pub tasks_stay : AllZip TaskStays w.tasks v.tasks
 
 -- The same is lifted, or lifting stops in the same trap, and this holds of what it leaves. Where no rule applies nothing is said.
 pub record LiftsTo {A : Type 0} (came : Came A) (x : A) (P : List Label → World → Type 0) : Type 0 where

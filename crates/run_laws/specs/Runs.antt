@@ -1,6 +1,6 @@
 -- Where the acting task's stack is to run (Core 2.0, section 4.4; Component Model, Concurrency.md, "Summary"): what the kept machine comes to by a run
 -- of it, the machine comes to by its turns.
-use Rattle.std.specs.Prelude.{◌≡◌, ℕ, List, []}
+use Rattle.std.specs.Prelude.{◌≡◌, List, []}
 use Rattle.ca_types.specs.declared.types.ValType.{ValType}
 use Rattle.comp_graph.specs.Graph.{Graph}
 use Rattle.script_reader.specs.Script.{Script}

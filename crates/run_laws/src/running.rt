@@ -1,10 +1,12 @@
-//! Runs of core code, instantiation, lowerings, and copies.
+//! Runs of core code, instantiation, lowerings, copies, tasks that enter, and results.
 
 ghost use Rattle.run_laws.specs.Completed.{CopyIsCompleted};
 ghost use Rattle.run_laws.specs.Copied.{ElementsGoOver};
 ghost use Rattle.run_laws.specs.Elements.{ElementsLead};
+ghost use Rattle.run_laws.specs.Entered.{TaskEnters};
 ghost use Rattle.run_laws.specs.Instantiation.{InstantiationAgrees};
 ghost use Rattle.run_laws.specs.Lowered.{LowersAtLeads};
+ghost use Rattle.run_laws.specs.Results.{TaskEndsWithResult, TaskReturnsResult};
 ghost use Rattle.run_laws.specs.Runs.{RunStepsAgree};
 ghost use Rattle.run_laws.specs.Transfers.{CopiesTransfer};
 
@@ -49,4 +51,18 @@ pub fn elements_go_over()
 /// same end and the same offer are found, the same elements go over, and the call is completed.
 pub fn copies_transfer()
     ensures { CopiesTransfer }
+{}
+
+/// What a task comes to that enters, where a rule applies and it runs a lifted function, the machine comes to: its arguments are lifted from its caller
+/// and lowered into its own instance, and its core function is to start with the same words, or there is the same trap, or fuel is wanting.
+pub fn tasks_enter()
+    ensures { TaskEnters }
+{}
+
+/// What `task.return` comes to, behind the test that the task may return, and what the end of a core function comes to that is lifted without `async`,
+/// where a rule applies, the machine comes to: the result is lifted, the task has returned, its result is lowered into the caller, and the task goes on,
+/// or its post-return runs and it is to exit; or there is the same trap, or fuel is wanting.
+pub fn results_pass()
+    ensures returned { TaskReturnsResult }
+    ensures ended { TaskEndsWithResult }
 {}

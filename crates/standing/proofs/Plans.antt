@@ -14,7 +14,6 @@ use Rattle.ca_types.specs.Fits.{fits}
 use Rattle.ca_types.specs.Layout.{laid, aligned, tag_size}
 use Rattle.ca_types.specs.Flat.{flat}
 use Rattle.laid_types.specs.Parts.{parts_of, part_at, case_count, payload_place}
-use Rattle.builtin_kinds.specs.declared.EndKind.{EndKind}
 use Rattle.builtin_kinds.specs.declared.EndKind.TheVariants as end_kind
 use Rattle.res_handles.specs.Calls.{is_defined}
 use Rattle.value_lower.specs.Plan as lower

@@ -39,7 +39,7 @@ use Rattle.abi_machine.specs.Edits.{with_control}
 use Rattle.abi_machine.specs.Canons.{func_address, canon_at}
 use Rattle.abi_machine.specs.Reading.{acting, func_of}
 use Rattle.abi_machine.specs.Turn as turns
-use Rattle.abi_machine.specs.Turn.{Turn, Steps, silent}
+use Rattle.abi_machine.specs.Turn.{Turn, Steps, silent, behind}
 use Rattle.abi_machine.specs.Returning.{post_return_call, post_return, finished}
 use Rattle.abi_machine.specs.Nested.{nested_ended, calls_host}
 use Rattle.abi_machine.specs.Next.{next}
@@ -281,9 +281,13 @@ no_rule g values s t u before stacks (Err stop.Stuck) new n = tt
 no_rule g values s t u before stacks (Err stop.Memory) new n = tt
 
 -- The task's post-return.
-module _ (g : Graph) (values : List ValType) (s : Script) (h : Held) (stacks : List (List Stack)) (u w : World) (t : ℕ) (task : Task) (f : Lifted) (before lines : List Label) (words : List ℕ)
+module _ (g : Graph) (values : List ValType) (s : Script) (h : Held) (stacks : List (List Stack)) (u w : World) (t : ℕ) (task : Task) (f : Lifted) (before lines ahead : List Label) (words : List ℕ)
     (acts : slice_get w.chain 0 ≡ Some t) (there : slice_get w.tasks t ≡ Some task) (func : func_of task.callee ≡ Some f) (st : Stands g values s h stacks w)
-    (told : h.labels ≡ before ++ lines) where
+    (told : h.labels ≡ before ++ (lines ++ ahead)) where
+  -- with the lines in front
+  all_lines : lines ++ (ahead ++ []) ≡ lines ++ ahead
+  all_lines = ap (λ (ls : List Label). lines ++ ls) (append-nil ahead)
+
   instance_is : instance_at t h ≡ Some f.instance
   instance_is =
       let x : IsFound (TaskStands g s) (slice_get h.tasks t) (slice_get w.tasks t) = found_both (TaskStands g s) h.tasks w.tasks t st.are_tasks (ap is_some there) in
@@ -297,7 +301,7 @@ module _ (g : Graph) (values : List ValType) (s : Script) (h : Held) (stacks : L
       ap (λ (o : Option (ℕ × Task)). turns.given o (λ a. turns.given (func_of a.1.callee) (λ x. post_return a.0 x words x.options.post_return w))) (acting_there w t task acts there)
       ∙ ap (λ (o : Option Lifted). turns.given o (λ x. post_return t x words x.options.post_return w)) func
 
-  begun : (ref : FuncRef) (call : Option Stack) (result : Result (Unit {0}) Stop) (new : Parts) → call_of h.store ref words ≡ call → Meets g s u lines (post_return t f words (Some ref) w)
+  begun : (ref : FuncRef) (call : Option Stack) (result : Result (Unit {0}) Stop) (new : Parts) → call_of h.store ref words ≡ call → Meets g s u lines (behind ahead (post_return t f words (Some ref) w))
       → BeginsNested g t (Some f.instance) call h result new → NestedComes g values s t u before stacks result new
   unfolding post_return
   begun ref None result new e m runs = no_rule g values s t u before stacks result new runs
@@ -305,17 +309,17 @@ module _ (g : Graph) (values : List ValType) (s : Script) (h : Held) (stacks : L
       let x = call_is w.store ref words k (ap (λ (a : Store). call_of a ref words) (sym st.same_store) ∙ e) in
       let n : Nested = post_return_call t f words x.0 in
       let v : World = with_control (Quiet n BeforeLeaving) w in
-      let to : GoesTo g s u lines v =
-      subst (λ (ls : List Label). GoesTo g s u ls v) (append-nil lines)
-      (meets_step g s u v lines []
-      (subst (λ (o : Option (ℕ × Function)). Meets g s u lines (turns.given o (λ function. silent (Quiet (post_return_call t f words function) BeforeLeaving) w))) x.1 m)) in
+      let to : GoesTo g s u (lines ++ ahead) v =
+      subst (λ (ls : List Label). GoesTo g s u ls v) all_lines
+      (meets_step g s u v lines (ahead ++ [])
+      (subst (λ (o : Option (ℕ × Function)). Meets g s u lines (behind ahead (turns.given o (λ function. silent (Quiet (post_return_call t f words function) BeforeLeaving) w)))) x.1 m)) in
       let at : IsAt g values s n BeforeLeaving stacks (record { held = h; stack = k }) v =
       record { control = ap (λ (j : Stack). Quiet (record n { state = Going j }) BeforeLeaving) x.2; stands = st } in
-      nested_behind g values s t u v before lines stacks result new to
+      nested_behind g values s t u v before (lines ++ ahead) stacks result new to
       (subst (λ (ls : List Label). NestedComes g values s t v ls stacks result new) told
       (nested_code_leads g values s n stacks (record { held = h; stack = k }) v result new at runs))
 
-  by_post : (post : Option FuncRef) (result : Result (Unit {0}) Stop) (new : Parts) → Meets g s u lines (post_return t f words post w) → PostReturns g t post words h result new
+  by_post : (post : Option FuncRef) (result : Result (Unit {0}) Stop) (new : Parts) → Meets g s u lines (behind ahead (post_return t f words post w)) → PostReturns g t post words h result new
       → NestedComes g values s t u before stacks result new
   unfolding post_return
   by_post None result new m runs =
@@ -323,9 +327,9 @@ module _ (g : Graph) (values : List ValType) (s : Script) (h : Held) (stacks : L
       subst (λ (r : Result (Unit {0}) Stop). NestedComes g values s t u before stacks r new) (sym runs.0)
       (subst (λ (k : Held). ComesBy g values s u before k stacks (λ x. x.control ≡ Leaves)) (sym runs.1)
       (record {
-        lines = lines;
+        lines = lines ++ ahead;
         world = v;
-        goes = subst (λ (ls : List Label). GoesTo g s u ls v) (append-nil lines) (meets_step g s u v lines [] m);
+        goes = subst (λ (ls : List Label). GoesTo g s u ls v) all_lines (meets_step g s u v lines (ahead ++ []) m);
         stands = st;
         told = told;
         ends = refl;
@@ -334,6 +338,6 @@ module _ (g : Graph) (values : List ValType) (s : Script) (h : Held) (stacks : L
       begun ref (call_of h.store ref words) result new refl m (subst (λ (o : Option ℕ). BeginsNested g t o (call_of h.store ref words) h result new) instance_is runs)
 
 pub post_returns_lead : PostReturnsLead
-post_returns_lead g values s h stacks u w t task f before lines words result new acts there func st told m runs =
-    by_post g values s h stacks u w t task f before lines words acts there func st told f.options.post_return result new
-    (subst (Meets g s u lines) (finish_is g values s h stacks u w t task f before lines words acts there func st told) m) runs
+post_returns_lead g values s h stacks u w t task f before lines ahead words result new acts there func st told m runs =
+    by_post g values s h stacks u w t task f before lines ahead words acts there func st told f.options.post_return result new
+    (subst (λ (turn : Turn). Meets g s u lines (behind ahead turn)) (finish_is g values s h stacks u w t task f before lines ahead words acts there func st told) m) runs

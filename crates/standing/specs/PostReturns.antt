@@ -17,6 +17,7 @@ use Rattle.abi_machine.specs.Control.{Finishes, Going, Nested, Behind, BeforeLea
 use Rattle.abi_machine.specs.World.{Task, World}
 use Rattle.abi_machine.specs.Reading.{func_of}
 use Rattle.abi_machine.specs.Returning.{finished}
+use Rattle.abi_machine.specs.Turn.{behind}
 use Rattle.standing.specs.Stands.{Stands}
 use Rattle.standing.specs.Reaching.{Meets}
 use Rattle.standing.specs.Leading.{ComesBy, EndsBy}
@@ -48,11 +49,11 @@ NestedCodeLeads =
     → NestedComes g values s n.blame w x.held.labels stacks result new
 
 -- The post-return of the acting task's function, where it has one, with the words with which its core function ended, where what the task
--- resolved to has reached its caller.
+-- resolved to has reached its caller, behind steps and with lines in front.
 abbrev pub PostReturnsLead : Type 0
 PostReturnsLead =
-    (g : Graph) (values : List ValType) (s : Script) (h : Held) (stacks : List (List Stack)) (u w : World) (t : ℕ) (task : Task) (f : Lifted) (before lines : List Label) (words : List ℕ)
+    (g : Graph) (values : List ValType) (s : Script) (h : Held) (stacks : List (List Stack)) (u w : World) (t : ℕ) (task : Task) (f : Lifted) (before lines ahead : List Label) (words : List ℕ)
     (result : Result (Unit {0}) Stop) (new : Parts)
-    → slice_get w.chain 0 ≡ Some t → slice_get w.tasks t ≡ Some task → func_of task.callee ≡ Some f → Stands g values s h stacks w → h.labels ≡ before ++ lines
-    → Meets g s u lines (finished (Finishes words) w) → PostReturns g t f.options.post_return words h result new
+    → slice_get w.chain 0 ≡ Some t → slice_get w.tasks t ≡ Some task → func_of task.callee ≡ Some f → Stands g values s h stacks w → h.labels ≡ before ++ (lines ++ ahead)
+    → Meets g s u lines (behind ahead (finished (Finishes words) w)) → PostReturns g t f.options.post_return words h result new
     → NestedComes g values s t u before stacks result new

@@ -1,0 +1,15 @@
+pub mod Feed
+pub mod Gates
+pub mod Entries
+pub mod Slots
+pub mod Places
+pub mod Channels
+pub mod Calls
+pub mod Handles
+pub mod Plain
+pub mod Copies
+pub mod Events
+pub mod Subtasks
+pub mod Waits
+pub mod Reads
+pub mod EndReplies

@@ -1,0 +1,13 @@
+pub mod By
+pub mod Parts
+pub mod Moved
+pub mod Borrowed
+pub mod ReturnTests
+pub mod ReturnTested
+pub mod Sites
+pub mod Ways
+pub mod Copying
+pub mod Entering
+pub mod Lifted
+pub mod Lowering
+pub mod Passed

@@ -1,0 +1,9 @@
+pub mod Only
+pub mod Feed
+pub mod Calls
+pub mod Plain
+pub mod Handles
+pub mod Subtasks
+pub mod Events
+pub mod Waits
+pub mod Replying

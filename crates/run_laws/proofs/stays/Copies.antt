@@ -1,0 +1,50 @@
+-- Built-ins of ends: the chain and the number of tasks stay, but where a part rests.
+use Rattle.std.specs.Prelude.{ℕ, not, if◌then◌else◌, List, [], ◌∷◌}
+use Rattle.builtin_kinds.specs.declared.EndKind.{EndKind}
+use Rattle.stream_ends.specs.declared.side.Side.{Side}
+use Rattle.stream_ends.specs.declared.side.Side.TheVariants.{Reader, Writer}
+use Rattle.stream_ends.specs.declared.stream_end.End.{End}
+use Rattle.stream_ends.specs.Ends.{is_copying}
+use Rattle.channels.specs.Channels.{end_in}
+use Rattle.world_parts.specs.Views.{Views}
+use Rattle.trace_show.specs.declared.trap.TrapName.TheVariants as trap
+use Rattle.world_parts.specs.Held.{Held, Traps, after, given}
+use Rattle.world_parts.specs.Feed.{got}
+use Rattle.world_parts.specs.Entries.{end_found, entry_added, entry_removed, end_idled, set_left}
+use Rattle.world_parts.specs.Slots.{word_in}
+use Rattle.world_parts.specs.Channels.{channel_at, channel_made, idle_seen, concluded, end_dropped}
+use Rattle.world_parts.specs.News.{copy_is_async}
+use Rattle.world_parts.specs.Copies.{both_indices, channel_new, copy_cancel, copy_given_up, drop_tested, dropped_end, end_drop, is_unwritten, new_end}
+use Rattle.run_laws.proofs.stays.Channels.{channel_made_stays, concluded_stays, end_dropped_stays, idle_seen_stays}
+use Rattle.run_laws.proofs.stays.Entries.{end_found_stays, end_idled_stays, entry_added_stays, entry_removed_stays, set_left_stays}
+use Rattle.run_laws.proofs.stays.Feed.{got_stays}
+use Rattle.run_laws.proofs.stays.Same.{FlowsBy, flows_after, flows_given, flows_if}
+
+pub channel_new_stays : (t : ℕ) (at : ℕ) (kind : EndKind) (type : ℕ) (h : Held) → FlowsBy h (channel_new t at kind type h)
+unfolding channel_new
+channel_new_stays t at kind type h =
+    flows_after h (channel_made kind type h) (λ number k. after (entry_added at (new_end Reader type number) k) (λ readable l. after (entry_added at (new_end Writer type number) l) (λ writable m. got t (both_indices readable writable ∷ []) m))) (channel_made_stays kind type h) (λ number k. flows_after k (entry_added at (new_end Reader type number) k) (λ readable l. after (entry_added at (new_end Writer type number) l) (λ writable m. got t (both_indices readable writable ∷ []) m)) (entry_added_stays at (new_end Reader type number) k) (λ readable l. flows_after l (entry_added at (new_end Writer type number) l) (λ writable m. got t (both_indices readable writable ∷ []) m) (entry_added_stays at (new_end Writer type number) l) (λ writable m. got_stays t (both_indices readable writable ∷ []) m)))
+
+pub dropped_end_stays : (t : ℕ) (at : ℕ) (index : ℕ) (kind : EndKind) (side : Side) (number : ℕ) (h : Held) → FlowsBy h (dropped_end t at index kind side number h)
+unfolding dropped_end
+dropped_end_stays t at index kind side number h =
+    flows_after h (set_left at index h) (λ done k. after (entry_removed at index k) (λ done l. after (end_dropped kind side number l) (λ done m. got t [] m))) (set_left_stays at index h) (λ done k. flows_after k (entry_removed at index k) (λ done l. after (end_dropped kind side number l) (λ done m. got t [] m)) (entry_removed_stays at index k) (λ done l. flows_after l (end_dropped kind side number l) (λ done m. got t [] m) (end_dropped_stays kind side number l) (λ done m. got_stays t [] m)))
+
+pub drop_tested_stays : (t : ℕ) (at : ℕ) (index : ℕ) (kind : EndKind) (side : Side) (number : ℕ) (e : End) (h : Held) → FlowsBy h (drop_tested t at index kind side number e h)
+drop_tested_stays t at index kind side number e h =
+    flows_if h (is_copying e) (Traps trap.Busy h) (if is_unwritten kind side e.done then Traps trap.UnwrittenFuture h else dropped_end t at index kind side number h) tt (flows_if h (is_unwritten kind side e.done) (Traps trap.UnwrittenFuture h) (dropped_end t at index kind side number h) tt (dropped_end_stays t at index kind side number h))
+
+pub end_drop_stays : (t : ℕ) (at : ℕ) (kind : EndKind) (side : Side) (type : ℕ) (words : List ℕ) (h : Held) → FlowsBy h (end_drop t at kind side type words h)
+unfolding end_drop
+end_drop_stays t at kind side type words h =
+    flows_given h (word_in words 0) (λ index. after (end_found at side type index h) (λ e k. given (channel_at kind e.number k) (λ c. drop_tested t at index kind side e.number (end_in side c.ends) k))) (λ index is. flows_after h (end_found at side type index h) (λ e k. given (channel_at kind e.number k) (λ c. drop_tested t at index kind side e.number (end_in side c.ends) k)) (end_found_stays at side type index h) (λ e k. flows_given k (channel_at kind e.number k) (λ c. drop_tested t at index kind side e.number (end_in side c.ends) k) (λ c is. drop_tested_stays t at index kind side e.number (end_in side c.ends) k)))
+
+pub copy_given_up_stays : (t : ℕ) (at : ℕ) (index : ℕ) (kind : EndKind) (side : Side) (number : ℕ) (h : Held) → FlowsBy h (copy_given_up t at index kind side number h)
+unfolding copy_given_up
+copy_given_up_stays t at index kind side number h =
+    flows_after h (concluded kind side number h) (λ payload k. after (idle_seen kind side number k) (λ is_idle l. after (end_idled at index is_idle l) (λ done m. got t (payload ∷ []) m))) (concluded_stays kind side number h) (λ payload k. flows_after k (idle_seen kind side number k) (λ is_idle l. after (end_idled at index is_idle l) (λ done m. got t (payload ∷ []) m)) (idle_seen_stays kind side number k) (λ is_idle l. flows_after l (end_idled at index is_idle l) (λ done m. got t (payload ∷ []) m) (end_idled_stays at index is_idle l) (λ done m. got_stays t (payload ∷ []) m)))
+
+pub copy_cancel_stays : (g : Views) (t : ℕ) (at : ℕ) (kind : EndKind) (side : Side) (type : ℕ) (words : List ℕ) (h : Held) → FlowsBy h (copy_cancel g t at kind side type words h)
+unfolding copy_cancel
+copy_cancel_stays g t at kind side type words h =
+    flows_given h (word_in words 0) (λ index. after (end_found at side type index h) (λ e k. given (channel_at kind e.number k) (λ c. if not (copy_is_async g (end_in side c.ends).copy) then Traps trap.NotCopying k else copy_given_up t at index kind side e.number k))) (λ index is. flows_after h (end_found at side type index h) (λ e k. given (channel_at kind e.number k) (λ c. if not (copy_is_async g (end_in side c.ends).copy) then Traps trap.NotCopying k else copy_given_up t at index kind side e.number k)) (end_found_stays at side type index h) (λ e k. flows_given k (channel_at kind e.number k) (λ c. if not (copy_is_async g (end_in side c.ends).copy) then Traps trap.NotCopying k else copy_given_up t at index kind side e.number k) (λ c is. flows_if k (not (copy_is_async g (end_in side c.ends).copy)) (Traps trap.NotCopying k) (copy_given_up t at index kind side e.number k) tt (copy_given_up_stays t at index kind side e.number k))))

@@ -1,0 +1,72 @@
+-- Sets, and waits on them: the chain and the number of tasks stay, but where a part rests.
+use Rattle.std.specs.Prelude.{ℕ, ◌+◌, ◌%◌, nat_eq, nat_lt, not, ◌&&◌, if◌then◌else◌, List, [], ◌∷◌, length}
+use Rattle.builtin_kinds.specs.declared.WaitOp.{WaitOp}
+use Rattle.builtin_kinds.specs.declared.WaitOp.TheVariants as wait_op
+use Rattle.tasks.specs.declared.event.BlockedAt.TheVariants as blocked_at
+use Rattle.tasks.specs.Tasks.{is_sync}
+use Rattle.instances.specs.declared.entry.WorldEntry.TheVariants as entry
+use Rattle.world_parts.specs.Views.{Views}
+use Rattle.trace_show.specs.declared.label.BlockReason.TheVariants as reason
+use Rattle.trace_show.specs.declared.trap.TrapName.TheVariants as trap
+use Rattle.world_parts.specs.declared.parts.Receiver.TheVariants as receiver
+use Rattle.world_parts.specs.Held.{Held, Traps, after, given}
+use Rattle.world_parts.specs.Feed.{got}
+use Rattle.world_parts.specs.Entries.{set_found, waitable_found, entry_added, entry_removed, sets_made, set_made, set_joined, set_left, set_dropped, set_waited_on}
+use Rattle.world_parts.specs.Slots.{word_in, kind_of, asked}
+use Rattle.world_parts.specs.Places.{memory_of, bytes_at}
+use Rattle.world_parts.specs.Calls.{blocked_in}
+use Rattle.world_parts.specs.News.{ready}
+use Rattle.world_parts.specs.Events.{received_cancel, delivered_among}
+use Rattle.world_parts.specs.Waits.{blocked_at_set, by_ready, joined_to, none_ready, set_drop, set_new, set_wait, waitable_join, waited}
+use Rattle.run_laws.proofs.stays.Calls.{blocked_in_stays}
+use Rattle.run_laws.proofs.stays.Entries.{entry_added_stays, entry_removed_stays, set_dropped_stays, set_found_stays, set_joined_stays, set_left_stays, set_made_stays, set_waited_on_stays, sets_made_stays, waitable_found_stays}
+use Rattle.run_laws.proofs.stays.Events.{delivered_among_stays, received_cancel_stays, received_none_stays}
+use Rattle.run_laws.proofs.stays.Feed.{got_stays}
+use Rattle.run_laws.proofs.stays.Slots.{asked_stays, kind_of_stays}
+use Rattle.run_laws.proofs.stays.Same.{FlowsBy, flows_after, flows_given, flows_if}
+
+pub set_new_stays : (t : ℕ) (at : ℕ) (h : Held) → FlowsBy h (set_new t at h)
+unfolding set_new
+set_new_stays t at h =
+    flows_after h (sets_made at h) (λ set k. after (entry_added at (entry.Set set) k) (λ index l. after (set_made at l) (λ number m. got t (index ∷ []) m))) (sets_made_stays at h) (λ set k. flows_after k (entry_added at (entry.Set set) k) (λ index l. after (set_made at l) (λ number m. got t (index ∷ []) m)) (entry_added_stays at (entry.Set set) k) (λ index l. flows_after l (set_made at l) (λ number m. got t (index ∷ []) m) (set_made_stays at l) (λ number m. got_stays t (index ∷ []) m)))
+
+pub set_drop_stays : (t : ℕ) (at : ℕ) (words : List ℕ) (h : Held) → FlowsBy h (set_drop t at words h)
+unfolding set_drop
+set_drop_stays t at words h =
+    flows_given h (word_in words 0) (λ index. after (set_found at index h) (λ set k. after (set_dropped at set k) (λ done l. after (entry_removed at index l) (λ done m. got t [] m)))) (λ index is. flows_after h (set_found at index h) (λ set k. after (set_dropped at set k) (λ done l. after (entry_removed at index l) (λ done m. got t [] m))) (set_found_stays at index h) (λ set k. flows_after k (set_dropped at set k) (λ done l. after (entry_removed at index l) (λ done m. got t [] m)) (set_dropped_stays at set k) (λ done l. flows_after l (entry_removed at index l) (λ done m. got t [] m) (entry_removed_stays at index l) (λ done m. got_stays t [] m))))
+
+pub joined_to_stays : (t : ℕ) (at : ℕ) (index : ℕ) (other : ℕ) (h : Held) → FlowsBy h (joined_to t at index other h)
+unfolding joined_to
+joined_to_stays t at index other h =
+    flows_if h (nat_eq other 0) (after (set_left at index h) (λ done k. got t [] k)) (after (set_found at other h) (λ set k. after (set_joined at index set k) (λ done l. got t [] l))) (flows_after h (set_left at index h) (λ done k. got t [] k) (set_left_stays at index h) (λ done k. got_stays t [] k)) (flows_after h (set_found at other h) (λ set k. after (set_joined at index set k) (λ done l. got t [] l)) (set_found_stays at other h) (λ set k. flows_after k (set_joined at index set k) (λ done l. got t [] l) (set_joined_stays at index set k) (λ done l. got_stays t [] l)))
+
+pub waitable_join_stays : (t : ℕ) (at : ℕ) (words : List ℕ) (h : Held) → FlowsBy h (waitable_join t at words h)
+unfolding waitable_join
+waitable_join_stays t at words h =
+    flows_given h (word_in words 0) (λ index. given (word_in words 1) (λ other. after (waitable_found at index h) (λ there k. joined_to t at index other k))) (λ index is. flows_given h (word_in words 1) (λ other. after (waitable_found at index h) (λ there k. joined_to t at index other k)) (λ other is. flows_after h (waitable_found at index h) (λ there k. joined_to t at index other k) (waitable_found_stays at index h) (λ there k. joined_to_stays t at index other k)))
+
+pub blocked_at_set_stays : (g : Views) (t : ℕ) (at : ℕ) (canon : ℕ) (index : ℕ) (set : ℕ) (h : Held) → FlowsBy h (blocked_at_set g t at canon index set h)
+unfolding blocked_at_set
+blocked_at_set_stays g t at canon index set h =
+    flows_after h (set_waited_on at set h) (λ done k. blocked_in t canon (g.flag canon) (blocked_at.Set index) (reason.Wait index) k) (set_waited_on_stays at set h) (λ done k. blocked_in_stays t canon (g.flag canon) (blocked_at.Set index) (reason.Wait index) k)
+
+pub none_ready_stays : (g : Views) (t : ℕ) (at : ℕ) (canon : ℕ) (x : WaitOp) (index : ℕ) (place : ℕ) (set : ℕ) (h : Held) → FlowsBy h (none_ready g t at canon x index place set h)
+none_ready_stays g t at canon wait_op.Wait index place set h =
+    blocked_at_set_stays g t at canon index set h
+none_ready_stays g t at canon wait_op.Poll index place set h =
+    received_none_stays g t (receiver.InWait canon place) h
+
+pub by_ready_stays : (g : Views) (t : ℕ) (at : ℕ) (canon : ℕ) (op : WaitOp) (index : ℕ) (place : ℕ) (set : ℕ) (members : List ℕ) (h : Held) → FlowsBy h (by_ready g t at canon op index place set members h)
+unfolding by_ready
+by_ready_stays g t at canon op index place set members h =
+    flows_if h (nat_eq (length members) 0) (none_ready g t at canon op index place set h) (delivered_among g t at (receiver.InWait canon place) members h) (none_ready_stays g t at canon op index place set h) (delivered_among_stays g t at (receiver.InWait canon place) members h)
+
+pub waited_stays : (g : Views) (t : ℕ) (at : ℕ) (canon : ℕ) (op : WaitOp) (index : ℕ) (place : ℕ) (set : ℕ) (h : Held) → FlowsBy h (waited g t at canon op index place set h)
+unfolding waited
+waited_stays g t at canon op index place set h =
+    flows_after h (kind_of t h) (λ kind k. after (asked t k) (λ is_asked l. if g.flag canon && not (is_sync kind) && is_asked then received_cancel g t (receiver.InWait canon place) l else by_ready g t at canon op index place set (ready g at set l) l)) (kind_of_stays t h) (λ kind k. flows_after k (asked t k) (λ is_asked l. if g.flag canon && not (is_sync kind) && is_asked then received_cancel g t (receiver.InWait canon place) l else by_ready g t at canon op index place set (ready g at set l) l) (asked_stays t k) (λ is_asked l. flows_if l (g.flag canon && not (is_sync kind) && is_asked) (received_cancel g t (receiver.InWait canon place) l) (by_ready g t at canon op index place set (ready g at set l) l) (received_cancel_stays g t (receiver.InWait canon place) l) (by_ready_stays g t at canon op index place set (ready g at set l) l)))
+
+pub set_wait_stays : (g : Views) (t : ℕ) (at : ℕ) (canon : ℕ) (op : WaitOp) (words : List ℕ) (h : Held) → FlowsBy h (set_wait g t at canon op words h)
+unfolding set_wait
+set_wait_stays g t at canon op words h =
+    flows_given h (word_in words 0) (λ index. given (word_in words 1) (λ place. after (set_found at index h) (λ set k. if not (nat_eq (place % 4) 0) then Traps trap.Misaligned k else if nat_lt (length (bytes_at (memory_of (g.options canon) k) k.store)) (place + 8) then Traps trap.Bounds k else waited g t at canon op index place set k))) (λ index is. flows_given h (word_in words 1) (λ place. after (set_found at index h) (λ set k. if not (nat_eq (place % 4) 0) then Traps trap.Misaligned k else if nat_lt (length (bytes_at (memory_of (g.options canon) k) k.store)) (place + 8) then Traps trap.Bounds k else waited g t at canon op index place set k)) (λ place is. flows_after h (set_found at index h) (λ set k. if not (nat_eq (place % 4) 0) then Traps trap.Misaligned k else if nat_lt (length (bytes_at (memory_of (g.options canon) k) k.store)) (place + 8) then Traps trap.Bounds k else waited g t at canon op index place set k) (set_found_stays at index h) (λ set k. flows_if k (not (nat_eq (place % 4) 0)) (Traps trap.Misaligned k) (if nat_lt (length (bytes_at (memory_of (g.options canon) k) k.store)) (place + 8) then Traps trap.Bounds k else waited g t at canon op index place set k) tt (flows_if k (nat_lt (length (bytes_at (memory_of (g.options canon) k) k.store)) (place + 8)) (Traps trap.Bounds k) (waited g t at canon op index place set k) tt (waited_stays g t at canon op index place set k)))))
