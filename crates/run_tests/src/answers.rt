@@ -133,7 +133,8 @@ fn script_run_on(alloc: Global, graph: &Graph, script: &Script, dump: bool) -> R
     runs_step_on::<ValueMoves>(&program);
     let mut sink = MemSink::new(alloc, ROOM, ROOM, &[])?;
     let mut kept = Vec::new(alloc);
-    let mut trace = Trace::new(&mut sink, &mut kept);
+    let mut last = Vec::new(alloc);
+    let mut trace = Trace::new(&mut sink, &mut kept, &mut last);
     match run_on::<ValueMoves, MemSink>(alloc, &program, &mut trace, dump) {
         Ok(ran) => run_on_told(alloc, ran, sink.taken()),
         Err(_) => Err(Fail::new("no run")),

@@ -26,7 +26,7 @@
 //! - `dumps`: what runs leave
 //! - `shown`: what `check` and `show` tell
 //! - `async`: built-ins, and lifts and lowers with `async`: what is linked, and that it runs
-//! - `streams`: the same of types of streams and futures
+//! - `streams`: the same of types of streams and futures; elements that are copied within one memory
 //! - `resources`: the same of types of resources and handles
 //! - `callbacks`: functions that are lifted with a callback: it yields, waits and polls
 //! - `waits`: waitable sets, and subtasks that are members of them
@@ -34,6 +34,7 @@
 //! - `leaving`: what a task may do behind its result, while arguments are lowered, and before all is instantiated
 //! - `turns`: fuel, choices, and which task enters or goes on
 //! - `lifted_builtins`: built-ins that are lifted, or are post-returns
+//! - `pipes`: two component instances, of which one writes numbers to a stream and the other reads them, for few numbers
 //!
 //! In the table `lines` of the kind `line` a paragraph is a line that says what is refused, `component`, `link` or `script`, and
 //! lines of a place and a reason, each with its line of a refusal behind ` = `. Behind a reason stands its argument: a byte as a
