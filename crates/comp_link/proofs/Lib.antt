@@ -3,6 +3,7 @@ mod Calling
 pub mod CanonParts
 pub mod CoreParts
 mod EndsFound
+pub mod Filling
 pub mod Growth
 mod Keeping
 pub mod LevelsSeen

@@ -8,6 +8,7 @@ use Rattle.comp_graph.specs.Closed.{Extern}
 use Rattle.link_spec.specs.declared.fault.LinkWhy.{LinkWhy}
 use Rattle.link_spec.specs.declared.fault.LinkWhy.TheVariants as why
 use Rattle.link_spec.specs.Definitions.{Definition, Fits, seen_as}
+use Rattle.link_spec.specs.Brought.{asked_of}
 use Rattle.link_spec.specs.Items.{lacking}
 use Rattle.link_spec.specs.Tests.{fits}
 use Rattle.link_spec.specs.Computed.{none_missing}
@@ -38,20 +39,20 @@ known_missing : (t : Table) (number : ℕ) (missing : List ℕ) → IsName t num
 known_missing t number missing named memory.Memory told = tt
 known_missing t number missing named (memory.Fault w) told = told missing named
 
-module _ (t : Table) (w : World) (d : Definition) (x : Extern) (name : List ℕ) (wanted : Option Extern) (is : wanted ≡ Some x) (o : Fit) (fit : IsFit t d x o) where
-  pub seen_fits : (ref : DefinitionRef) → o ≡ answer.Fits → (Fits d x → Stands t w ref (seen_as d x))
+module _ (t : Table) (w : World) (d : Definition) (asked : Extern) (name : List ℕ) (wanted : Option Extern) (is : wanted ≡ Some asked) (o : Fit) (fit : IsFit t d (asked_of d asked) o) where
+  pub seen_fits : (ref : DefinitionRef) → o ≡ answer.Fits → (Fits d (asked_of d asked) → Stands t w ref (seen_as d (asked_of d asked)))
       → IsTold (IsSeen t w) (Ok (Some ref)) (none_missing (lacking (Some d) name wanted) (Ok (as_wanted d wanted)))
   seen_fits ref same stands =
-      let fitting : Fits d x = subst (λ (o : Fit). IsFit t d x o) same fit in
-      rw (is, fits_lacks d name x fitting, (fits_told d x).1 fitting) (stands fitting)
+      let fitting : Fits d (asked_of d asked) = subst (λ (o : Fit). IsFit t d (asked_of d asked) o) same fit in
+      rw (is, fits_lacks d name (asked_of d asked) fitting, (fits_told d (asked_of d asked)).1 fitting) (stands fitting)
 
   pub seen_differs : o ≡ answer.Differs → IsTold (IsSeen t w) (Ok None) (none_missing (lacking (Some d) name wanted) (Ok (as_wanted d wanted)))
   seen_differs same =
-      let differs = subst (λ (o : Fit). IsFit t d x o) same fit in
-      rw (is, differs.0 name, not_fitting d x differs.1) refl
+      let differs = subst (λ (o : Fit). IsFit t d (asked_of d asked) o) same fit in
+      rw (is, differs.0 name, not_fitting d (asked_of d asked) differs.1) refl
 
   pub seen_missing : (number : ℕ) (e : MemoryOr LinkWhy) → o ≡ answer.Missing number → IfFault e (λ w. (name : List ℕ) → IsName t number name → w ≡ why.Missing name)
       → IsReason e (none_missing {A = Result Definition LinkWhy} (lacking (Some d) name wanted) (Ok (as_wanted d wanted)))
   seen_missing number e same told =
-      let lacking = subst (λ (o : Fit). IsFit t d x o) same fit in
+      let lacking = subst (λ (o : Fit). IsFit t d (asked_of d asked) o) same fit in
       rw (is, lacking.2 name) (missing_told (Result Definition LinkWhy) e lacking.0 lacking.0 refl (known_missing t number lacking.0 lacking.1 e told))

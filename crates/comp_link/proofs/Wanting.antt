@@ -13,6 +13,7 @@ use Rattle.comp_graph.specs.Closed.{Closed, Extern}
 use Rattle.link_spec.specs.declared.fault.LinkWhy.{LinkWhy}
 use Rattle.link_spec.specs.declared.fault.LinkWhy.TheVariants as why
 use Rattle.link_spec.specs.Definitions.{Definition, Exports, export_names, export_named, lacks}
+use Rattle.link_spec.specs.Brought.{asked_of}
 use Rattle.link_spec.specs.Types.{Meaning}
 use Rattle.link_spec.specs.Spaces.{Spaces, Linking, size_of, definition_at}
 use Rattle.link_spec.specs.Items.{lacking, said, type_made}
@@ -91,7 +92,7 @@ module _ (t : Table) (w : World) (lacks : Option (List ℕ)) (x : Result Definit
 
 -- Exports.
 
-said_lacking : (d : Definition) (name : List ℕ) (m : Option Extern) → option_and_then (λ extern. lacks (Some d) name extern) m ≡ lacking (Some d) name m
+said_lacking : (d : Definition) (name : List ℕ) (m : Option Extern) → option_and_then (λ extern. lacks (Some d) name (asked_of d extern)) m ≡ lacking (Some d) name m
 said_lacking d name None = refl
 said_lacking d name (Some x) = refl
 

@@ -5,6 +5,7 @@ ghost use Rattle.comp_tree.specs.declared.externs.ExternDesc.{ExternDesc};
 ghost use Rattle.link_spec.specs.Definitions.{Exports};
 ghost use Rattle.link_spec.specs.Spaces.{Spaces, Linking};
 ghost use Rattle.link_spec.specs.Computed.{export_outcome};
+ghost use Rattle.link_types.specs.Table.{Grows};
 ghost use Rattle.comp_link.specs.State.{IsAt, IsMade, ended};
 ghost use Rattle.comp_link.specs.Told.{IsTold};
 ghost use Rattle.comp_link.specs.Ready.{IsReady, exported};
@@ -47,7 +48,8 @@ fn said_export(
 ) -> Result<DefinitionRef, ItemError>
     requires { n < length linker.old.scopes.items }
     ensures made { (bases : List Exports) (l : Linking) (s : Spaces) → IsAt bases linker.old n l s → export.now.desc ≡ Some desc → IsTold (IsReady linker.new l (exported l n s export.now.name)) result (export_outcome l n s export.now) }
-    ensures rest { linker.new ≡ record linker.old { instances = linker.new.instances } }
+    ensures rest { linker.new ≡ record linker.old { types = linker.new.types; instances = linker.new.instances } }
+    ensures grows { Grows linker.old.types linker.new.types }
 {
     let scope = linker.scope(n);
     if (export.index as usize) >= scope.size(export.sort) {
@@ -80,7 +82,8 @@ fn export_definition(
 ) -> Result<DefinitionRef, ItemError>
     requires { n < length linker.old.scopes.items }
     ensures made { (bases : List Exports) (l : Linking) (s : Spaces) → IsAt bases linker.old n l s → IsTold (IsReady linker.new l (exported l n s export.now.name)) result (export_outcome l n s export.now) }
-    ensures rest { linker.new ≡ record linker.old { instances = linker.new.instances } }
+    ensures rest { linker.new ≡ record linker.old { types = linker.new.types; instances = linker.new.instances } }
+    ensures grows { Grows linker.old.types linker.new.types }
 {
     match export.desc {
         None => plain_export(linker, n, export),

@@ -93,7 +93,7 @@ fn root_import(
 ) -> Result<DefinitionRef, ItemError>
     requires { n < length linker.old.scopes.items }
     ensures made { (bases : List Exports) (l : Linking) (s : Spaces) → IsAt bases linker.old n l s → IsTold (IsReady linker.new l (imported l n s import.now.name)) result (import_outcome l n s import.now.name (items.meant_of s None import.now.desc) import.now.desc None) }
-    ensures rest { linker.new ≡ record linker.old { instances = linker.new.instances } }
+    ensures rest { linker.new ≡ record linker.old { types = linker.new.types; instances = linker.new.instances } }
 {
     let instance_type = root_type(linker, n, import)?;
     let instance = linker.instance_of_types(alloc, instance_type)?;
@@ -111,7 +111,7 @@ fn given_import(
 ) -> Result<DefinitionRef, ItemError>
     requires { n < length linker.old.scopes.items }
     ensures made { (bases : List Exports) (l : Linking) (s : Spaces) (given : Exports) → IsAt bases linker.old n l s → IsName linker.old.types number import.now.name → IsInstance linker.old.types (world_of bases linker.old) arguments given → IsTold (IsReady linker.new l (imported l n s import.now.name)) result (import_outcome l n s import.now.name (items.meant_of s (export_named import.now.name given) import.now.desc) import.now.desc (Some given)) }
-    ensures rest { linker.new ≡ record linker.old { instances = linker.new.instances } }
+    ensures rest { linker.new ≡ record linker.old { types = linker.new.types; instances = linker.new.instances } }
 {
     let argument = linker
         .instances
@@ -143,7 +143,7 @@ fn import_definition(
 ) -> Result<DefinitionRef, ItemError>
     requires { n < length linker.old.scopes.items }
     ensures made { (bases : List Exports) (l : Linking) (s : Spaces) → IsAt bases linker.old n l s → IsName linker.old.types number import.now.name → IsTold (IsReady linker.new l (imported l n s import.now.name)) result (import_outcome l n s import.now.name (items.wanted s import.now.name import.now.desc) import.now.desc s.arguments) }
-    ensures rest { linker.new ≡ record linker.old { instances = linker.new.instances } }
+    ensures rest { linker.new ≡ record linker.old { types = linker.new.types; instances = linker.new.instances } }
 {
     match linker.scope(n).arguments {
         None => root_import(alloc, linker, n, import),

@@ -13,11 +13,12 @@ ghost use Rattle.link_spec.specs.Definitions.{CoreItem, extern_of, Lifted, Closu
 ghost use Rattle.link_spec.specs.Tests.{are_types};
 ghost use Rattle.link_spec.specs.Spaces.{Spaces, Linking, with_core_item, with_core_instance, with_definition, with_spaces};
 ghost use Rattle.link_spec.specs.Canons.{Given, options_of};
+ghost use Rattle.link_spec.specs.Brought.{asked_of};
 ghost use Rattle.link_spec.specs.Resources.{with_resource};
 ghost use Rattle.link_spec.specs.Items.{core_made, type_made, with_canon, lower_made, builtin_made, with_import, with_export};
 ghost use Rattle.link_spec.specs.Linked.{root_begun, begun, with_instance};
 ghost use Rattle.link_spec.specs.Computed.{imports_outcome};
-ghost use Rattle.link_types.specs.Table.{IsName, IsExtern, IsType, IsInstanceType};
+ghost use Rattle.link_types.specs.Table.{IsName, IsExtern, IsType, IsInstanceType, Grows};
 ghost use Rattle.link_instances.specs.declared.references.DefinitionRef.{DefinitionRef};
 ghost use Rattle.link_instances.specs.References.{IsInstance, IsLifted, IsListing};
 ghost use Rattle.link_instances.specs.References as references;
@@ -39,7 +40,8 @@ use comp_tree::{Component, CoreArgument};
 use link_core_exports::{CoreExports, CoreItem, CoreModule, Cores, InlineExports};
 use link_core_types::CoreFuncType;
 use link_instances::{DefinitionRef, Fit, InstanceRef, Instances, LiftedRef};
-use link_types::{ExternRef, InstanceTypeRef, Listing, TypeRef, Types};
+use link_meanings::moved_extern;
+use link_types::{Change, ExternRef, InstanceTypeRef, Listing, TypeRef, Types};
 use std::alloc::{AllocError, Global};
 
 /// The number of the root, which begins first.
@@ -178,6 +180,29 @@ impl<'a> Linker<'a> {
         ensures scopes { self.new.scopes ≡ self.old.scopes }
     {
         self.types.name(name.as_str())
+    }
+
+    /// What is asked for of a definition, where that stands for what it brings.
+    pub fn filled(
+        &mut self,
+        alloc: Global,
+        given: DefinitionRef,
+        asked: ExternRef,
+    ) -> Result<ExternRef, AllocError>
+        ensures ok { IfOk result (λ ref. (bases : List Exports) (l : Linking) (d : Definition) (x : Extern) → IsState bases self.old l → references.Stands self.old.types (world_of bases self.old) given d → IsExtern self.old.types asked x → IsExtern self.new.types ref (asked_of d x)) }
+        ensures state { (bases : List Exports) (l : Linking) → IsState bases self.old l → IsState bases self.new l }
+        ensures stay { (bases : List Exports) (d : Definition) → references.Stands self.old.types (world_of bases self.old) given d → references.Stands self.new.types (world_of bases self.new) given d }
+        ensures rest { self.new ≡ record self.old { types = self.new.types } }
+        ensures grows { Grows self.old.types self.new.types }
+    {
+        let found = self
+            .instances
+            .found_for(alloc, &mut self.types, given, asked)?;
+        let given = found.as_slice();
+        if given.is_empty() {
+            return Ok(asked);
+        }
+        Ok(moved_extern(alloc, &mut self.types, asked, Change::FilledIn(given))?)
     }
 
     /// Whether a definition is what is asked for.

@@ -8,7 +8,7 @@ ghost use Rattle.link_spec.specs.Definitions.{Definition, Exports};
 ghost use Rattle.link_spec.specs.Spaces.{Linking};
 ghost use Rattle.link_spec.specs.Items.{lacking};
 ghost use Rattle.link_spec.specs.Computed.{none_missing};
-ghost use Rattle.link_types.specs.Table.{IsName, IsExtern};
+ghost use Rattle.link_types.specs.Table.{IsName, IsExtern, Grows};
 ghost use Rattle.link_instances.specs.References as references;
 ghost use Rattle.link_meanings.specs.Meant.{IsFoundAs};
 ghost use Rattle.comp_link.specs.State.{world_of, IsState};
@@ -42,11 +42,13 @@ pub fn seen(
 ) -> Result<Option<DefinitionRef>, ItemError>
     ensures told { (bases : List Exports) (l : Linking) (d : Definition) (wanted : Option Extern) (name : List ℕ) → IsState bases linker.old l → references.Stands linker.old.types (world_of bases linker.old) given d → IsFoundAs (IsExtern linker.old.types) asked wanted → IsTold (IsSeen linker.new.types (world_of bases linker.new)) result (none_missing (lacking (Some d) name wanted) (Ok (as_wanted d wanted))) }
     ensures state { (bases : List Exports) (l : Linking) (d : Definition) (wanted : Option Extern) → IsState bases linker.old l → references.Stands linker.old.types (world_of bases linker.old) given d → IsFoundAs (IsExtern linker.old.types) asked wanted → IsState bases linker.new l }
-    ensures rest { linker.new ≡ record linker.old { instances = linker.new.instances } }
+    ensures rest { linker.new ≡ record linker.old { types = linker.new.types; instances = linker.new.instances } }
+    ensures grows { Grows linker.old.types linker.new.types }
 {
     let Some(asked) = asked else {
         return Ok(None);
     };
+    let asked = linker.filled(alloc, given, asked)?;
     match linker.fit(alloc, given, asked)? {
         Fit::Fits => Ok(Some(seen_as(given, asked))),
         Fit::Missing(number) => Err(missing_number(alloc, &linker.types, number)),

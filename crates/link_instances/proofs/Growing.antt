@@ -10,7 +10,7 @@ use Rattle.link_instances.specs.declared.references.DefinitionRef.{DefinitionRef
 use Rattle.link_instances.specs.declared.references.DefinitionRef.TheVariants as definition_ref
 use Rattle.link_instances.specs.declared.pairs.Pair.{Pair}
 use Rattle.link_types.specs.Numbering.{AreApart}
-use Rattle.link_types.specs.Listed.{item_named}
+use Rattle.link_values.specs.Listed.{item_named}
 use Rattle.link_types.specs.Table.{Table}
 use Rattle.link_types.specs.Table.{Grows}
 use Rattle.link_instances.specs.References.{World, IsSeen, IsInstance, Stands, listed, IsEntry, IsListing, IsFound, AreBases, with_base, Stays, WorldStays}

@@ -2,6 +2,7 @@ pub mod Asking
 pub mod Calling
 pub mod Compares
 pub mod Finding
+pub mod FoundTold
 pub mod Going
 pub mod Growing
 pub mod InOrder

@@ -12,7 +12,7 @@ use Rattle.link_types.specs.declared.refs.ExternRef.{ExternRef}
 use Rattle.link_instances.specs.declared.references.InstanceRef.{InstanceRef}
 use Rattle.link_instances.specs.declared.references.DefinitionRef.{DefinitionRef}
 use Rattle.link_types.specs.Numbering.{AreApart}
-use Rattle.link_types.specs.Listed.{item_named}
+use Rattle.link_values.specs.Listed.{item_named}
 use Rattle.link_types.specs.Table.{Table}
 use Rattle.link_types.specs.Table.{IsInstanceType}
 use Rattle.link_instances.specs.References.{World, IsSeen, IsInstance, listed, IsEntry, IsListing, IsFound, seen_found}

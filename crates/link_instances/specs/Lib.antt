@@ -2,6 +2,7 @@ pub mod Called
 pub mod Comparing
 pub mod Fit
 pub mod Fitting
+pub mod Found
 pub mod Instances
 pub mod Laws
 pub mod OfTypes

@@ -14,7 +14,7 @@ use Rattle.link_instances.specs.declared.references.LiftedRef.{LiftedRef}
 use Rattle.link_instances.specs.declared.references.InstanceRef.{InstanceRef}
 use Rattle.link_instances.specs.declared.references.DefinitionRef.{DefinitionRef}
 use Rattle.link_instances.specs.declared.references.DefinitionRef.TheVariants as definition_ref
-use Rattle.link_types.specs.Listed.{item_named}
+use Rattle.link_values.specs.Listed.{item_named}
 use Rattle.link_types.specs.Table.{Table}
 use Rattle.link_types.specs.Table.{IsFunc, IsInstanceType, IsType}
 

@@ -6,6 +6,7 @@
 //! - `ordered`: the exports of an instance, in order
 //! - `of_types`: instances whose exports are the types that a type of instances asks for
 //! - `comparing`, `pairs`, `fitting`: whether a definition is what is asked for
+//! - `found`: what is given for the resources that a type of instances brings
 //! - `called`, of `func_lists`: the functions that can be called, and what they lift
 //! - `laws`: what holds of instances that are seen as a type
 #![tactic(auto)]
@@ -13,6 +14,7 @@
 mod called;
 mod comparing;
 mod fitting;
+mod found;
 mod func_lists;
 mod instances;
 pub mod laws;

@@ -29,43 +29,47 @@ use Rattle.link_meanings.proofs.Telling.{told_stands, kept_before}
 
 -- All is the same but one index space.
 pub types_more : (t : Table) (closures : List Closure) (old new : Declared) (d : types_read.Declared) (x : Option TypeRef) (y : Option Closed) → IsDeclared t closures old d → IsFoundAs (IsType t) x y → new.types.items ≡ old.types.items ++ x ∷ []
-    → new.components ≡ old.components → new.instances ≡ old.instances → new.names ≡ old.names → new.so_far ≡ old.so_far → IsDeclared t closures new (record d { types = d.types ++ y ∷ [] })
-types_more t closures old new d x y h r e a b n s = record {
+    → new.components ≡ old.components → new.instances ≡ old.instances → new.names ≡ old.names → new.so_far ≡ old.so_far → new.resources ≡ old.resources → IsDeclared t closures new (record d { types = d.types ++ y ∷ [] })
+types_more t closures old new d x y h r e a b n s c = record {
   types = rw e (all_more (IsFoundAs (IsType t)) old.types.items d.types x y h.types r);
   components = rw a h.components;
   instances = rw b h.instances;
   names = rw n h.names;
+  resources = rw c h.resources;
   so_far = rw s h.so_far;
 }
 
 pub instances_more : (t : Table) (closures : List Closure) (old new : Declared) (d : types_read.Declared) (x : Option InstanceTypeRef) (y : Option Externs) → IsDeclared t closures old d → IsFoundAs (IsInstanceType t) x y → new.instances.items ≡ old.instances.items ++ x ∷ []
-    → new.types ≡ old.types → new.components ≡ old.components → new.names ≡ old.names → new.so_far ≡ old.so_far → IsDeclared t closures new (record d { instances = d.instances ++ y ∷ [] })
-instances_more t closures old new d x y h r e a b n s = record {
+    → new.types ≡ old.types → new.components ≡ old.components → new.names ≡ old.names → new.so_far ≡ old.so_far → new.resources ≡ old.resources → IsDeclared t closures new (record d { instances = d.instances ++ y ∷ [] })
+instances_more t closures old new d x y h r e a b n s c = record {
   types = rw a h.types;
   components = rw b h.components;
   instances = rw e (all_more (IsFoundAs (IsInstanceType t)) old.instances.items d.instances x y h.instances r);
   names = rw n h.names;
+  resources = rw c h.resources;
   so_far = rw s h.so_far;
 }
 
 pub components_more : (t : Table) (closures : List Closure) (old new : Declared) (d : types_read.Declared) (x : Option ℕ) (y : Option Closure) → IsDeclared t closures old d → IsFoundAs (IsClosure closures) x y → new.components.items ≡ old.components.items ++ x ∷ []
-    → new.types ≡ old.types → new.instances ≡ old.instances → new.names ≡ old.names → new.so_far ≡ old.so_far → IsDeclared t closures new (record d { components = d.components ++ y ∷ [] })
-components_more t closures old new d x y h r e a b n s = record {
+    → new.types ≡ old.types → new.instances ≡ old.instances → new.names ≡ old.names → new.so_far ≡ old.so_far → new.resources ≡ old.resources → IsDeclared t closures new (record d { components = d.components ++ y ∷ [] })
+components_more t closures old new d x y h r e a b n s c = record {
   types = rw a h.types;
   components = rw e (all_more (IsFoundAs (IsClosure closures)) old.components.items d.components x y h.components r);
   instances = rw b h.instances;
   names = rw n h.names;
+  resources = rw c h.resources;
   so_far = rw s h.so_far;
 }
 
 -- All is the same but what is told.
 pub one_told : {A B : Type 0} (t : Table) (closures : List Closure) (R : B → A → Type 0) (old new : Declared) (d : types_read.Declared) (r : Meant B) (now : Meaning A) → IsDeclared t closures old d → IsMeaning R r now
-    → new.so_far ≡ told_more old.so_far r → new.types ≡ old.types → new.components ≡ old.components → new.instances ≡ old.instances → new.names ≡ old.names → IsDeclared t closures new (told d now)
-one_told t closures R old new d r now h k e a b c n = record {
+    → new.so_far ≡ told_more old.so_far r → new.types ≡ old.types → new.components ≡ old.components → new.instances ≡ old.instances → new.names ≡ old.names → new.resources ≡ old.resources → IsDeclared t closures new (told d now)
+one_told t closures R old new d r now h k e a b c n q = record {
   types = rw a h.types;
   components = rw b h.components;
   instances = rw c h.instances;
   names = rw n h.names;
+  resources = rw q h.resources;
   so_far = told_stands t R old.so_far new.so_far d.so_far r now h.so_far k e;
 }
 
@@ -91,11 +95,11 @@ instance_of t None e h = rw h refl
 instance_of t (Some item) e h = rw h.1 (instance_found t item h.0 h.2)
 
 pub type_put : (t : Table) (closures : List Closure) (old new : Declared) (d : types_read.Declared) (item : Option ExternRef) (x : Option TypeRef) (e : Option Extern) → IsDeclared t closures old d → IsFoundAs (IsExtern t) item e → x ≡ type_ref_in item
-    → new.types.items ≡ old.types.items ++ x ∷ [] → new.components ≡ old.components → new.instances ≡ old.instances → new.names ≡ old.names → new.so_far ≡ old.so_far → IsDeclared t closures new (with_declared d sorts.Type e)
+    → new.types.items ≡ old.types.items ++ x ∷ [] → new.components ≡ old.components → new.instances ≡ old.instances → new.names ≡ old.names → new.so_far ≡ old.so_far → new.resources ≡ old.resources → IsDeclared t closures new (with_declared d sorts.Type e)
 type_put t closures old new d item x e h is f = types_more t closures old new d x (type_in e) h (rw f (type_of t item e is))
 
 pub instance_put : (t : Table) (closures : List Closure) (old new : Declared) (d : types_read.Declared) (item : Option ExternRef) (x : Option InstanceTypeRef) (e : Option Extern) → IsDeclared t closures old d → IsFoundAs (IsExtern t) item e → x ≡ instance_ref_in item
-    → new.instances.items ≡ old.instances.items ++ x ∷ [] → new.types ≡ old.types → new.components ≡ old.components → new.names ≡ old.names → new.so_far ≡ old.so_far → IsDeclared t closures new (with_declared d sorts.Instance e)
+    → new.instances.items ≡ old.instances.items ++ x ∷ [] → new.types ≡ old.types → new.components ≡ old.components → new.names ≡ old.names → new.so_far ≡ old.so_far → new.resources ≡ old.resources → IsDeclared t closures new (with_declared d sorts.Instance e)
 instance_put t closures old new d item x e h is f = instances_more t closures old new d x (instance_in e) h (rw f (instance_of t item e is))
 
 -- a type, a component, and what is of a sort
@@ -104,17 +108,17 @@ type_again None = refl
 type_again (Some c) = refl
 
 pub type_declared : (t : Table) (closures : List Closure) (old mid new : Declared) (d : types_read.Declared) (r : Meant TypeRef) (e : Meaning Closed) → IsDeclared t closures old d → IsMeaning (IsType t) r e
-    → mid.types.items ≡ old.types.items ++ r.means ∷ [] → mid.components ≡ old.components → mid.instances ≡ old.instances → mid.names ≡ old.names → mid.so_far ≡ old.so_far
-    → new.so_far ≡ told_more mid.so_far r → new.types ≡ mid.types → new.components ≡ mid.components → new.instances ≡ mid.instances → new.names ≡ mid.names → IsDeclared t closures new (with_type d e)
-type_declared t closures old mid new d r e h k a1 a2 a3 a4 a5 =
+    → mid.types.items ≡ old.types.items ++ r.means ∷ [] → mid.components ≡ old.components → mid.instances ≡ old.instances → mid.names ≡ old.names → mid.so_far ≡ old.so_far → mid.resources ≡ old.resources
+    → new.so_far ≡ told_more mid.so_far r → new.types ≡ mid.types → new.components ≡ mid.components → new.instances ≡ mid.instances → new.names ≡ mid.names → new.resources ≡ mid.resources → IsDeclared t closures new (with_type d e)
+type_declared t closures old mid new d r e h k a1 a2 a3 a4 a5 a6 =
     one_told t closures (IsType t) mid new (with_declared d sorts.Type (option_map OfType e.means)) r e
-    (types_more t closures old mid d r.means (type_in (option_map OfType e.means)) h (rw (type_again e.means) k.means) a1 a2 a3 a4 a5) k
+    (types_more t closures old mid d r.means (type_in (option_map OfType e.means)) h (rw (type_again e.means) k.means) a1 a2 a3 a4 a5 a6) k
 
 pub component_declared : (t : Table) (closures : List Closure) (old mid new : Declared) (d : types_read.Declared) (r : Meant ℕ) (e : Meaning Closure) → IsDeclared t closures old d → IsMeaning (IsClosure closures) r e
-    → mid.components.items ≡ old.components.items ++ r.means ∷ [] → mid.types ≡ old.types → mid.instances ≡ old.instances → mid.names ≡ old.names → mid.so_far ≡ old.so_far
-    → new.so_far ≡ told_more mid.so_far r → new.types ≡ mid.types → new.components ≡ mid.components → new.instances ≡ mid.instances → new.names ≡ mid.names → IsDeclared t closures new (with_component d e)
-component_declared t closures old mid new d r e h k a1 a2 a3 a4 a5 =
-    one_told t closures (IsClosure closures) mid new (record d { components = d.components ++ e.means ∷ [] }) r e (components_more t closures old mid d r.means e.means h k.means a1 a2 a3 a4 a5) k
+    → mid.components.items ≡ old.components.items ++ r.means ∷ [] → mid.types ≡ old.types → mid.instances ≡ old.instances → mid.names ≡ old.names → mid.so_far ≡ old.so_far → mid.resources ≡ old.resources
+    → new.so_far ≡ told_more mid.so_far r → new.types ≡ mid.types → new.components ≡ mid.components → new.instances ≡ mid.instances → new.names ≡ mid.names → new.resources ≡ mid.resources → IsDeclared t closures new (with_component d e)
+component_declared t closures old mid new d r e h k a1 a2 a3 a4 a5 a6 =
+    one_told t closures (IsClosure closures) mid new (record d { components = d.components ++ e.means ∷ [] }) r e (components_more t closures old mid d r.means e.means h k.means a1 a2 a3 a4 a5 a6) k
 
 -- what is told so far does not depend on what is declared, nor do the names
 so_far_same : (d : types_read.Declared) (sort : Sort) (e : Option Extern) → (with_declared d sort e).so_far ≡ d.so_far
@@ -123,6 +127,17 @@ so_far_same d sorts.Type e = refl
 so_far_same d sorts.Instance e = refl
 so_far_same d sorts.Component e = refl
 so_far_same d (sorts.Core sort) e = refl
+
+pub resources_same : (d : types_read.Declared) (sort : Sort) (e : Option Extern) → (with_declared d sort e).resources ≡ d.resources
+resources_same d sorts.Func e = refl
+resources_same d sorts.Type e = refl
+resources_same d sorts.Instance e = refl
+resources_same d sorts.Component e = refl
+resources_same d (sorts.Core sort) e = refl
+
+-- The same with another count of resources.
+pub counted : (t : Table) (closures : List Closure) (d : Declared) (defined : types_read.Declared) (count : ℕ) → IsDeclared t closures d defined → IsDeclared t closures (record d { resources = count }) (record defined { resources = count })
+counted t closures d defined count h = record { types = h.types; components = h.components; instances = h.instances; names = h.names; resources = refl; so_far = h.so_far }
 
 -- An export: an index, a name more, and the exports with one more behind them.
 not_new : {A : Type 0} (b : Bool) (x y : Option A) → x ≡ y → cond (not b) x None ≡ cond b None y
@@ -133,11 +148,12 @@ pub export_declared : (t : Table) (closures : List Closure) (mid new : Declared)
     → extended name extern defined.so_far.means ≡ extended name extern before
     → is_new ≡ not (has mid.names name) → ((q : List ℕ) → has new.names q ≡ (bytes_eq name q || has mid.names q))
     → IsFoundAs (IsBegun t) new.so_far.means (cond is_new (extended name extern defined.so_far.means) None) → new.so_far.is_there ≡ mid.so_far.is_there → new.so_far.missing ≡ mid.so_far.missing → new.so_far.deep ≡ mid.so_far.deep
-    → new.types ≡ mid.types → new.components ≡ mid.components → new.instances ≡ mid.instances → IsDeclared t closures new (under_name defined before name extern)
-export_declared t closures mid new defined before name extern is_new h same fresh all means there missing deep a b c = record {
+    → new.types ≡ mid.types → new.components ≡ mid.components → new.instances ≡ mid.instances → new.resources ≡ mid.resources → IsDeclared t closures new (under_name defined before name extern)
+export_declared t closures mid new defined before name extern is_new h same fresh all means there missing deep a b c r = record {
   types = rw a h.types;
   components = rw b h.components;
   instances = rw c h.instances;
+  resources = rw r h.resources;
   names = λ q. all q ∙ ap (λ r. bytes_eq name q || r) (h.names q) ∙ swapped (bytes_eq name q) (is_among q defined.names) ∙ sym (among_more q defined.names name);
   so_far = record {
     is_there = there ∙ h.so_far.is_there;

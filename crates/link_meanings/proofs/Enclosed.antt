@@ -5,6 +5,9 @@ use Rattle.std.specs.List.{slice_get, AllZip}
 use Rattle.comp_tree.specs.declared.core_instances.CoreSort.{CoreSort}
 use Rattle.comp_tree.specs.declared.instances.Sort.{Sort}
 use Rattle.comp_tree.specs.declared.instances.Sort.TheVariants as sorts
+use Rattle.comp_graph.specs.Closed.{Closed}
+use Rattle.link_values.specs.Resources.{further_in}
+use Rattle.link_spec.specs.Brought.{moved}
 use Rattle.link_spec.specs.Definitions.{Closure}
 use Rattle.link_spec.specs.Spaces as spaces
 use Rattle.link_spec.specs.Types as types_read
@@ -32,17 +35,28 @@ named_found : {A B : Type 0} (R : B → A → Type 0) (b : Option B) (o : Option
 named_found R b o h = rw (h.1, kept h.0) (record { is_there = refl; missing = refl; deep = refl; means = h.2 })
 
 module _ (t : Table) (closures : List Closure) where
-  pub type_absent : (index : ℕ) (level : Enclosing) (l : Option spaces.Level) → IsFoundAs (IsEnclosing t closures) (Some level) l → slice_get (enclosed_types level) index ≡ None
-      → IsMeaning (IsType t) (record { is_there = false; missing = None; deep = false; means = None }) (outer_type index l)
-  type_absent index level l h e =
+  pub type_absent : (up index : ℕ) (level : Enclosing) (l : Option spaces.Level) → IsFoundAs (IsEnclosing t closures) (Some level) l → slice_get (enclosed_types level) index ≡ None
+      → IsMeaning (IsType t) (record { is_there = false; missing = None; deep = false; means = None }) (outer_type up index l)
+  type_absent up index level l h e =
       let p = rw e at (found_at (IsFoundAs (IsType t)) (enclosed_types level) h.0.types index h.2.types) in
-      rw h.1 (named_absent (IsType t) (slice_get h.0.types index) p)
+      rw h.1 (moved_absent up (slice_get h.0.types index) p)
+    where
+      moved_absent : (up : ℕ) (o : Option (Option Closed)) → o ≡ None → IsMeaning (IsType t) (record { is_there = false; missing = None; deep = false; means = None }) (found (λ type. Some (moved (further_in up) 0 type)) o)
+      moved_absent up o k = rw k (record { is_there = refl; missing = refl; deep = refl; means = refl })
 
-  pub type_named : (index : ℕ) (level : Enclosing) (l : Option spaces.Level) (b : Option TypeRef) → IsFoundAs (IsEnclosing t closures) (Some level) l → slice_get (enclosed_types level) index ≡ Some b
-      → IsMeaning (IsType t) (record { is_there = true; missing = None; deep = false; means = b }) (outer_type index l)
-  type_named index level l b h e =
-      let p = rw e at (found_at (IsFoundAs (IsType t)) (enclosed_types level) h.0.types index h.2.types) in
-      rw h.1 (named_found (IsType t) b (slice_get h.0.types index) p)
+  -- a type without a meaning, and one that has one
+  pub type_unknown : (up index : ℕ) (level : Enclosing) (l : Option spaces.Level) → IsFoundAs (IsEnclosing t closures) (Some level) l → slice_get (enclosed_types level) index ≡ Some None
+      → IsMeaning (IsType t) (record { is_there = true; missing = None; deep = false; means = None }) (outer_type up index l)
+  type_unknown up index level l h e =
+      let p : IsFoundAs (IsFoundAs (IsType t)) (Some None) (slice_get h.0.types index) = rw e at (found_at (IsFoundAs (IsType t)) (enclosed_types level) h.0.types index h.2.types) in
+      rw (h.1, p.1, p.2) (record { is_there = refl; missing = refl; deep = refl; means = refl })
+
+  pub type_moved : (u : Table) (up index : ℕ) (level : Enclosing) (l : Option spaces.Level) (closed new : TypeRef) → IsFoundAs (IsEnclosing t closures) (Some level) l → slice_get (enclosed_types level) index ≡ Some (Some closed)
+      → ((type : Closed) → IsType t closed type → IsType u new (moved (further_in up) 0 type))
+      → IsMeaning (IsType u) (record { is_there = true; missing = None; deep = false; means = Some new }) (outer_type up index l)
+  type_moved u up index level l closed new h e k =
+      let p : IsFoundAs (IsFoundAs (IsType t)) (Some (Some closed)) (slice_get h.0.types index) = rw e at (found_at (IsFoundAs (IsType t)) (enclosed_types level) h.0.types index h.2.types) in
+      rw (h.1, p.1, p.2.1) (record { is_there = refl; missing = refl; deep = refl; means = (moved (further_in up) 0 p.2.0, refl, k p.2.0 p.2.2) })
 
   pub component_absent : (index : ℕ) (level : Enclosing) (l : Option spaces.Level) → IsFoundAs (IsEnclosing t closures) (Some level) l → slice_get (enclosed_components level) index ≡ None
       → IsMeaning (IsClosure closures) (record { is_there = false; missing = None; deep = false; means = None }) (outer_component index l)

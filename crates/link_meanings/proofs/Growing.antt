@@ -47,5 +47,6 @@ module _ (t u : Table) (g : Grows t u) where
     components = h.components;
     instances = all_stay (IsFoundAs (IsInstanceType t)) (IsFoundAs (IsInstanceType u)) (found_stays (IsInstanceType t) (IsInstanceType u) (instance_type_stays t u g)) d.instances.items defined.instances h.instances;
     names = h.names;
+    resources = h.resources;
     so_far = so_far_stays d.so_far defined.so_far h.so_far;
   }

@@ -45,6 +45,7 @@ pub record IsDeclared (t : Table) (closures : List Closure) (d : Declared) (defi
   pub components : AllZip (IsFoundAs (IsClosure closures)) d.components.items defined.components
   pub instances : AllZip (IsFoundAs (IsInstanceType t)) d.instances.items defined.instances
   pub names : (q : List ℕ) → has d.names q ≡ is_among q defined.names
+  pub resources : d.resources ≡ defined.resources
   pub so_far : IsSoFar t d.so_far defined.so_far
 
 -- what a declaration makes of an instance type, in these levels

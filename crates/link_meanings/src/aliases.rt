@@ -19,7 +19,7 @@ use crate::outer::{outer_component, outer_type};
 use ca_base::Name;
 use comp_tree::{Alias, AliasTarget, Sort};
 use link_types::{ExternRef, InstanceTypeRef, Meant, Types, asked_named};
-use std::alloc::AllocError;
+use std::alloc::{AllocError, Global};
 
 /// What an export is, if it is of this sort.
 fn of_sort(sort: Sort, item: ExternRef) -> Option<ExternRef>
@@ -94,12 +94,15 @@ impl<'a> Declared<'a> {
     /// An outer alias, which is of a component or a type.
     fn add_outer(
         &mut self,
+        alloc: Global,
+        types: &mut Types<'_>,
         around: &[Enclosing<'_>],
         sort: Sort,
         up: u32,
         index: u32,
     ) -> Result<(), AllocError>
-        ensures { OnOk result ((t : Table) (closures : List Closure) (levels : List spaces.Level) (d : types_read.Declared) → AllZip (IsEnclosing t closures) around.now levels → IsDeclared t closures self.old d → IsDeclared t closures self.new (with_outer d (own_level d ∷ levels) sort up index)) }
+        ensures ok { OnOk result ((closures : List Closure) (levels : List spaces.Level) (d : types_read.Declared) → AllZip (IsEnclosing types.old closures) around.now levels → IsDeclared types.old closures self.old d → IsDeclared types.new closures self.new (with_outer d (own_level d ∷ levels) sort up index)) }
+        ensures grows { Grows types.old types.new }
     {
         match sort {
             Sort::Component => {
@@ -107,7 +110,8 @@ impl<'a> Declared<'a> {
                 self.add_component(&meant)?
             }
             Sort::Type => {
-                let meant = outer_type(level_at(self.own_level(), around, up), index);
+                let level = level_at(self.own_level(), around, up);
+                let meant = outer_type(alloc, types, level, up as usize, index)?;
                 self.add_type(&meant)?
             }
             Sort::Core(_) | Sort::Func | Sort::Instance => self.declare(sort, &Meant::absent())?,
@@ -118,6 +122,7 @@ impl<'a> Declared<'a> {
     /// An alias. An instance type has no core instances.
     pub(crate) fn add_alias(
         &mut self,
+        alloc: Global,
         types: &mut Types<'a>,
         around: &[Enclosing<'_>],
         alias: &'a Alias,
@@ -132,7 +137,9 @@ impl<'a> Declared<'a> {
             AliasTarget::CoreInstanceExport { .. } => {
                 self.declare(alias.sort, &Meant::absent())?
             }
-            AliasTarget::Outer { up, index } => { self.add_outer(around, alias.sort, *up, *index)? }
+            AliasTarget::Outer { up, index } => {
+                self.add_outer(alloc, types, around, alias.sort, *up, *index)?
+            }
         }
         Ok(())
     }

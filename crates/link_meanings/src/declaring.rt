@@ -12,7 +12,7 @@ ghost use Rattle.link_meanings.specs.Levels.{IsClosure, enclosed_types, enclosed
 ghost use Rattle.link_meanings.specs.Declaring.{IsDeclared};
 ghost use Rattle.link_meanings.specs.References.{type_ref_in, instance_ref_in};
 
-use crate::described::described;
+use crate::exporting::{brought_with, export_brings, export_described};
 use crate::levels::Enclosing;
 use crate::so_far::SoFar;
 use ca_base::{Name, adds};
@@ -34,6 +34,8 @@ pub(crate) struct Declared<'a> {
     pub(crate) instances: Vec<Option<InstanceTypeRef>>,
     /// The names of its exports.
     pub(crate) names: BTreeSet<&'a str>,
+    /// How many resources its exports bring.
+    pub(crate) resources: usize,
     /// What its declarations tell.
     pub(crate) so_far: SoFar<'a>,
 }
@@ -70,6 +72,7 @@ impl<'a> Declared<'a> {
             components: Vec::new(alloc),
             instances: Vec::new(alloc),
             names: BTreeSet::new(alloc),
+            resources: 0,
             so_far,
         })
     }
@@ -140,6 +143,7 @@ impl<'a> Declared<'a> {
     /// An export, which is one index more of what it is.
     pub(crate) fn add_export(
         &mut self,
+        alloc: Global,
         types: &mut Types<'a>,
         name: &'a Name,
         desc: ExternDesc,
@@ -148,8 +152,11 @@ impl<'a> Declared<'a> {
         ensures grows { Grows types.old types.new }
     {
         let number = types.name(name.as_str())?;
-        let meant = described(&self.own_level(), desc);
+        let meant = export_described(alloc, types, &self.own_level(), self.resources, desc)?;
+        let brought = export_brings(types, &self.own_level(), desc)?;
         self.declare(sort_of(desc), &meant)?;
+        let resources = brought_with(self.resources, brought)?;
+        self.resources = resources;
         let is_new = adds(&mut self.names, name.as_str())?;
         self.so_far.extend(types, number, meant.means, is_new)?;
         Ok(())

@@ -9,15 +9,20 @@
 //! - `value_layers`: written types of values over the numbers of their parts; `value_meanings`: their meanings
 //! - `funcs`: types of functions; `described`: what imports and exports are to be
 //! - `so_far`: what the declarations of an instance type tell so far; `declaring`: all of them; `aliases`: those of aliases
+//! - `moving`: closed types in which the numbers of resources are changed; `bringing`: how many resources types of instances bring;
+//!   `exporting`: what exports of instance types are to be
 //! - `meanings`: what any type means
 #![tactic(auto)]
 
 mod aliases;
+mod bringing;
 mod declaring;
 mod described;
+mod exporting;
 mod funcs;
 mod levels;
 mod meanings;
+mod moving;
 mod numbered;
 mod outer;
 mod so_far;
@@ -28,4 +33,5 @@ mod values;
 pub use described::wanted;
 pub use levels::Level;
 pub use meanings::meaning_of;
+pub use moving::{NESTING_LIMIT, moved_extern};
 pub use values::held_value;

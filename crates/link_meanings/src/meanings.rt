@@ -81,8 +81,8 @@ fn declare<'a>(
             };
             declared.add_type(&meant)?
         }
-        InstanceDecl::Alias(alias) => declared.add_alias(types, around, alias)?,
-        InstanceDecl::Export { name, desc } => declared.add_export(types, name, *desc)?,
+        InstanceDecl::Alias(alias) => declared.add_alias(alloc, types, around, alias)?,
+        InstanceDecl::Export { name, desc } => declared.add_export(alloc, types, name, *desc)?,
     }
     Ok(())
 }

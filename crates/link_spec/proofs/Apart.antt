@@ -1,6 +1,6 @@
 -- Closed types that are apart: no two labels of a function type and no two names of an instance type are equal, at any depth of a
 -- closed type, no value type in it is deeper than it may be, and no borrowed handle is given or passes in a stream or a future.
-use Rattle.std.proofs.Common.{◌≡◌, ℕ, Bool, true, false, cond, List, [], ◌∷◌, length, map, refl, sym, ◌∙◌, ap₂, subst, Option, Some, None}
+use Rattle.std.proofs.Common.{◌≡◌, ℕ, suc, Bool, true, false, cond, List, [], ◌∷◌, ◌++◌, length, map, refl, sym, ◌∙◌, ap, ap₂, subst, Option, Some, None}
 use Rattle.std.specs.Prelude.{nat_le, is_none, IfSome}
 use Rattle.std.specs.Option.{option_map, option_and_then}
 use Rattle.std.specs.List.{slice_get, AllByRecursion}
@@ -22,15 +22,19 @@ use Rattle.comp_tree.specs.declared.types.DefValType.{DefValType}
 use Rattle.comp_tree.specs.declared.types.Param as read_param
 use Rattle.comp_tree.specs.declared.types.FuncType as read_func
 use Rattle.comp_graph.specs.Closed.{Closed, Value, Func, Resource, Instance, Extern, OfFunc, OfType, OfInstance, Externs, EmptyType, WithExtern, extern_names, extern_named, first_of, externs_of, func_of, value_of}
+use Rattle.link_values.specs.Resources.{Change, brought_behind, filled_in, renumbered, renumbered_param, renumbered_func}
+use Rattle.link_spec.specs.Brought.{moved, moved_extern, moved_externs, found_for, filled, asked_of}
+use Rattle.link_spec.specs.Definitions.{Definition}
 use Rattle.link_spec.specs.Distinct.{HasDistinctLabels}
 use Rattle.link_spec.specs.Shallow.{depth_limit, IsShallow, HasShallowTypes}
 use Rattle.link_spec.specs.Lending.{lends, GivesNoBorrow}
 use Rattle.link_spec.specs.Meaning.{absent, meant, too_deep, found}
 use Rattle.link_spec.specs.ValueTypes.{close_val, close_held, without_borrow, close_passed, parts_within, close_def, capped, value_meaning}
-use Rattle.link_spec.specs.Types.{close_param, close_params, close_func, all_within, func_meaning, desc_meaning, resource_meant, given_meaning}
-use Rattle.link_spec.proofs.Holding.{all_at, if_weaker, if_mapped, if_found, if_cond}
+use Rattle.link_spec.specs.Types.{close_param, close_params, close_func, all_within, func_meaning, desc_meaning, resource_meant, given_meaning, Declared, as_exported, described}
+use Rattle.link_spec.proofs.Holding.{all_at, all_mapped, all_weaker, if_weaker, if_mapped, if_found, if_cond}
 use Rattle.link_spec.proofs.Depths.{at_most, leaf_shallow}
 use Rattle.link_spec.proofs.Lending.{leaf_lends, def_lends}
+use Rattle.link_spec.proofs.Unmoved.{held_borrow_same, labels_same, shallow_same, lends_same}
 
 abbrev pub IsFuncApart : FuncType → Type 0
 IsFuncApart type = HasDistinctLabels type × HasShallowTypes type × GivesNoBorrow type
@@ -200,3 +204,56 @@ pub named_apart : (q : List ℕ) (externs : Externs) → AreApart externs → If
 named_apart q EmptyType h = tt
 named_apart q (WithExtern others name extern) h =
     first_apart (extern_named q others) (cond (bytes_eq name q) (Some extern) None) (named_apart q others h.0) (if_cond IsExternApart (bytes_eq name q) (Some extern) None h.1 tt)
+
+-- Types in which the numbers of resources are changed.
+pub func_moved : (f : ℕ → ℕ) (type : FuncType) → IsFuncApart type → IsFuncApart (renumbered_func f type)
+func_moved f type h = (
+  subst AreDistinct (sym (labels_same f type.params)) h.0,
+  (
+    all_mapped (renumbered_param f) (λ (p : Param). IsShallow p.val_type) type.params (all_weaker (λ (p : Param). IsShallow p.val_type) (λ (p : Param). IsShallow (renumbered f p.val_type)) (λ p k. shallow_same f p.val_type k) type.params h.1.0),
+    if_mapped (renumbered f) IsShallow type.result (if_weaker IsShallow (λ t. IsShallow (renumbered f t)) (shallow_same f) type.result h.1.1),
+  ),
+  held_borrow_same f type.result ∙ h.2,
+)
+
+names_moved : (f : Change) (depth : ℕ) (externs : Externs) → extern_names (moved_externs f depth externs) ≡ extern_names externs
+names_moved f depth EmptyType = refl
+names_moved f depth (WithExtern others name extern) = ap (λ (names : List (List ℕ)). names ++ name ∷ []) (names_moved f depth others)
+
+mutual
+  pub type_moved : (f : Change) (depth : ℕ) (type : Closed) → IsApart type → IsApart (moved f depth type)
+  type_moved f depth (Value type) h = (shallow_same (f depth) type h.0, lends_same (f depth) type h.1)
+  type_moved f depth (Func type) h = func_moved (f depth) type h
+  type_moved f depth (Resource number) h = tt
+  type_moved f depth (Instance externs) h = externs_moved f (suc depth) externs h
+
+  pub extern_moved : (f : Change) (depth : ℕ) (extern : Extern) → IsExternApart extern → IsExternApart (moved_extern f depth extern)
+  extern_moved f depth (OfFunc type) h = func_moved (f depth) type h
+  extern_moved f depth (OfType type) h = type_moved f depth type h
+  extern_moved f depth (OfInstance externs) h = externs_moved f depth externs h
+
+  pub externs_moved : (f : Change) (depth : ℕ) (externs : Externs) → AreApart externs → AreApart (moved_externs f depth externs)
+  externs_moved f depth EmptyType h = tt
+  externs_moved f depth (WithExtern others name extern) h =
+      (externs_moved f depth others h.0, extern_moved f depth extern h.1, subst (λ (names : List (List ℕ)). is_among name names ≡ false) (sym (names_moved f depth others)) h.2)
+
+-- what is asked for of a definition
+pub asked_apart : (d : Definition) (extern : Extern) → IsExternApart extern → IsExternApart (asked_of d extern)
+asked_apart d extern h = by (found_for (Some d) [] extern)
+  where
+    by : (given : List ℕ) → IsExternApart (filled given extern)
+    by [] = h
+    by (number ∷ given) = extern_moved (filled_in (number ∷ given)) 0 extern h
+
+-- what an export of an instance type is to be
+exported_apart : (resources : ℕ) (type : Closed) → IsApart type → IfSome (as_exported resources type) IsExternApart
+exported_apart resources (Value type) h = tt
+exported_apart resources (Func type) h = tt
+exported_apart resources (Resource number) h = tt
+exported_apart resources (Instance externs) h = externs_moved (brought_behind resources) 0 externs h
+
+pub described_apart : (d : Declared) (asked : ExternDesc) → AllByRecursion IsKnownApart d.types → IfSome (described d asked).means IsExternApart
+described_apart d (desc.Func index) h = desc_apart d.types (desc.Func index) h
+described_apart d (desc.TypeEq index) h = desc_apart d.types (desc.TypeEq index) h
+described_apart d (desc.Instance index) h = found_apart (as_exported d.resources) IsApart IsExternApart (exported_apart d.resources) (slice_get d.types index) (all_at IsKnownApart d.types index h)
+described_apart d desc.Resource h = tt

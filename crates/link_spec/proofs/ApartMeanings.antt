@@ -1,5 +1,5 @@
 -- What a type means is apart, where all types around it are.
-use Rattle.std.proofs.Common.{◌≡◌, ℕ, Bool, true, false, cond, List, [], ◌∷◌, ◌++◌, map, refl, sym, ap, subst, Option, Some, None}
+use Rattle.std.proofs.Common.{◌≡◌, ℕ, Bool, true, false, cond, List, [], ◌∷◌, ◌++◌, ◌+◌, map, refl, sym, ap, subst, Option, Some, None}
 use Rattle.std.specs.Prelude.{IfSome}
 use Rattle.std.specs.Option.{option_map}
 use Rattle.std.specs.List.{slice_get, AllByRecursion}
@@ -9,18 +9,19 @@ use Rattle.comp_tree.specs.declared.instances.Sort.TheVariants as sorts
 use Rattle.comp_tree.specs.declared.instances.AliasTarget.{AliasTarget}
 use Rattle.comp_tree.specs.declared.instances.AliasTarget.TheVariants as target
 use Rattle.comp_tree.specs.declared.externs.ExternDesc.{ExternDesc}
-use Rattle.comp_tree.specs.declared.externs.ExternDesc.TheVariants as desc
 use Rattle.comp_tree.specs.declared.types.DefType.{DefType, roll-DefType}
 use Rattle.comp_tree.specs.declared.types.InstanceDecl.{InstanceDecl}
 use Rattle.comp_tree.specs.declared.types.DefType.TheViews.{roll-InstanceDecl}
 use Rattle.comp_tree.specs.declared.types.DefType.TheOpen.{DefType-F, InstanceDecl-F}
 use Rattle.comp_tree.specs.declared.types.DefType.TheFolds.{fold-DefType, fold-InstanceDecl, fold-roll-DefType, fold-roll-InstanceDecl, ind-DefType, map-DefType, map-InstanceDecl}
 use Rattle.comp_graph.specs.Closed.{Closed, Instance, Extern, OfFunc, OfType, OfInstance, Externs, extern_names, extern_named}
+use Rattle.link_values.specs.Resources.{further_in}
+use Rattle.link_spec.specs.Brought.{moved}
 use Rattle.link_spec.specs.Definitions.{Closure}
 use Rattle.link_spec.specs.Spaces.{Level}
-use Rattle.link_spec.specs.Types.{Meaning, absent, meant, desc_meaning, Declared, nothing_declared, own_level, type_in, instance_in, with_declared, kept_if, told, of_sort, of_export, from_instance, outer_type, outer_component, with_component, with_type, with_outer, declared_as, with_alias, extended, under_name, with_export, declared_by, instance_meaning, InLevels, types_around, type_step, decl_step, meaning_of}
+use Rattle.link_spec.specs.Types.{Meaning, absent, Declared, nothing_declared, own_level, type_in, instance_in, with_declared, kept_if, told, of_sort, of_export, from_instance, outer_type, outer_component, with_component, with_type, with_outer, declared_as, with_alias, sort_of, described, brings, extended, under_name, with_export, declared_by, instance_meaning, InLevels, types_around, type_step, decl_step, meaning_of}
 use Rattle.link_spec.proofs.Holding.{all_push, all_at, if_weaker, if_mapped}
-use Rattle.link_spec.proofs.Apart.{IsApart, IsExternApart, AreApart, IsKnownApart, AreKnownApart, value_meaning_apart, func_meaning_apart, found_apart, desc_apart, named_apart}
+use Rattle.link_spec.proofs.Apart.{IsApart, IsExternApart, AreApart, IsKnownApart, AreKnownApart, value_meaning_apart, func_meaning_apart, found_apart, type_moved, described_apart, named_apart}
 
 abbrev pub IsLevelApart : Level → Type 0
 IsLevelApart level = AllByRecursion IsKnownApart level.types
@@ -74,14 +75,15 @@ component_apart : (d : Declared) (c : Meaning Closure) → IsDeclaredApart d →
 component_apart d c h = told_apart (record d { components = d.components ++ c.means ∷ [] }) c (record { types = h.types; instances = h.instances; so_far = h.so_far })
 
 -- Aliases.
-outer_type_apart : (index : ℕ) (o : Option Level) → IfSome o IsLevelApart → IfSome (outer_type index o).means IsApart
-outer_type_apart index None h = tt
-outer_type_apart index (Some level) h = found_apart (λ type. Some type) IsApart IsApart (λ type k. k) (slice_get level.types index) (all_at IsKnownApart level.types index h)
+outer_type_apart : (up index : ℕ) (o : Option Level) → IfSome o IsLevelApart → IfSome (outer_type up index o).means IsApart
+outer_type_apart up index None h = tt
+outer_type_apart up index (Some level) h =
+    found_apart (λ type. Some (moved (further_in up) 0 type)) IsApart IsApart (λ type k. type_moved (further_in up) 0 type k) (slice_get level.types index) (all_at IsKnownApart level.types index h)
 
 outer_apart : (d : Declared) (levels : List Level) (sort : Sort) (up index : ℕ) → AreLevelsApart levels → IsDeclaredApart d → IsDeclaredApart (with_outer d levels sort up index)
 outer_apart d levels sorts.Component up index k h = component_apart d (outer_component index (slice_get levels up)) h
 outer_apart d levels sorts.Func up index k h = as_apart d sorts.Func absent h tt
-outer_apart d levels sorts.Type up index k h = type_apart d (outer_type index (slice_get levels up)) h (outer_type_apart index (slice_get levels up) (all_at IsLevelApart levels up k))
+outer_apart d levels sorts.Type up index k h = type_apart d (outer_type up index (slice_get levels up)) h (outer_type_apart up index (slice_get levels up) (all_at IsLevelApart levels up k))
 outer_apart d levels sorts.Instance up index k h = as_apart d sorts.Instance absent h tt
 outer_apart d levels (sorts.Core sort) up index k h = as_apart d (sorts.Core sort) absent h tt
 
@@ -123,20 +125,24 @@ under_apart d before name extern h told k = record {
   so_far = extended_apart d.names name extern before (is_among name d.names) refl k told;
 }
 
+brought_apart : (d : Declared) (resources : ℕ) → IsDeclaredApart d → IsDeclaredApart (record d { resources = resources })
+brought_apart d resources h = record { types = h.types; instances = h.instances; so_far = h.so_far }
+
+names_kept : (d : Declared) (sort : Sort) (e : Option Extern) → (with_declared d sort e).names ≡ d.names
+names_kept d sorts.Func e = refl
+names_kept d sorts.Type e = refl
+names_kept d sorts.Instance e = refl
+names_kept d sorts.Component e = refl
+names_kept d (sorts.Core sort) e = refl
+
 with_export_apart : (d : Declared) (name : List ℕ) (asked : ExternDesc) → IsDeclaredApart d → IsDeclaredApart (with_export d name asked)
-with_export_apart d name (desc.Func index) h =
-    let extern = desc_meaning d.types (desc.Func index) in
-    let k = desc_apart d.types (desc.Func index) h.types in
-    under_apart (declared_as d sorts.Func extern) d.so_far.means name extern.means (as_apart d sorts.Func extern h k) h.so_far k
-with_export_apart d name (desc.TypeEq index) h =
-    let extern = desc_meaning d.types (desc.TypeEq index) in
-    let k = desc_apart d.types (desc.TypeEq index) h.types in
-    under_apart (declared_as d sorts.Type extern) d.so_far.means name extern.means (as_apart d sorts.Type extern h k) h.so_far k
-with_export_apart d name (desc.Instance index) h =
-    let extern = desc_meaning d.types (desc.Instance index) in
-    let k = desc_apart d.types (desc.Instance index) h.types in
-    under_apart (declared_as d sorts.Instance extern) d.so_far.means name extern.means (as_apart d sorts.Instance extern h k) h.so_far k
-with_export_apart d name desc.Resource h = under_apart (declared_as d sorts.Type (meant None)) d.so_far.means name None (as_apart d sorts.Type (meant None) h tt) h.so_far tt
+with_export_apart d name asked h =
+    let extern = described d asked in
+    let k = described_apart d asked h.types in
+    let declared = declared_as d (sort_of asked) extern in
+    under_apart (record declared { resources = d.resources + brings d asked }) d.so_far.means name extern.means
+    (brought_apart declared (d.resources + brings d asked) (as_apart d (sort_of asked) extern h k))
+    (subst (λ (names : List (List ℕ)). IsToldApart names d.so_far.means) (sym (names_kept d (sort_of asked) extern.means)) h.so_far) k
 
 -- By induction on types and declarations.
 around_apart : (levels : List Level) → AreLevelsApart levels → AllByRecursion IsKnownApart (types_around levels)

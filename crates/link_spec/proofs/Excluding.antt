@@ -27,6 +27,7 @@ use Rattle.comp_tree.specs.declared.items.Canon.TheVariants.{Lift, Lower, Builti
 use Rattle.comp_tree.specs.declared.items.Item.{Item, out-Item}
 use Rattle.comp_tree.specs.declared.items.Item.TheOpen.{Item-F}
 use Rattle.comp_tree.specs.declared.items.Component.{Component}
+use Rattle.link_spec.specs.Brought.{asked_of}
 use Rattle.link_spec.specs.declared.fault.LinkWhy.{LinkWhy}
 use Rattle.link_spec.specs.declared.fault.LinkWhy.TheVariants as why
 use Rattle.comp_graph.specs.Needs.{destructor_type}
@@ -256,12 +257,12 @@ root_excludes s desc.Resource name extern d root is h k = no_resource s.argument
     no_resource (Some given) e f = cc
 
 -- what is given of what an import takes
-given_fits : (given : Exports) (name : List ℕ) (extern : Extern) (meaning : Option Extern) (missing : List ℕ) → meaning ≡ Some extern → (x : Definition) → export_named name given ≡ Some x → Fits x extern → lacking (export_named name given) name meaning ≡ Some missing → ⊥
+given_fits : (given : Exports) (name : List ℕ) (extern : Extern) (meaning : Option Extern) (missing : List ℕ) → meaning ≡ Some extern → (x : Definition) → export_named name given ≡ Some x → Fits x (asked_of x extern) → lacking (export_named name given) name meaning ≡ Some missing → ⊥
 given_fits given name extern meaning missing is x there fits h =
     let found : lacking (Some x) name (Some extern) ≡ Some missing = sym (ap (λ (o : Option Definition). lacking o name (Some extern)) there) ∙ (sym (ap (λ (e : Option Extern). lacking (export_named name given) name e) is) ∙ h) in
-    both_of (lacks (Some x) name extern) missing found (fits_lacks x name extern fits)
+    both_of (lacks (Some x) name (asked_of x extern)) missing found (fits_lacks x name (asked_of x extern) fits)
 
-pub fits_another : (o : Option Definition) (e : Option Extern) (x : Definition) (extern : Extern) → o ≡ Some x → e ≡ Some extern → Fits x extern → DoesNotFit o e → ⊥
+pub fits_another : (o : Option Definition) (e : Option Extern) (x : Definition) (extern : Extern) → o ≡ Some x → e ≡ Some extern → Fits x (asked_of x extern) → DoesNotFit o e → ⊥
 fits_another o e x extern there is fits h =
     let k : DoesNotFit (Some x) (Some extern) = subst (λ (e : Option Extern). DoesNotFit (Some x) e) is (subst (λ (o : Option Definition). DoesNotFit o e) there h) in
     k fits
@@ -292,10 +293,10 @@ said_whole : (s : Spaces) (given : Option Definition) (asked : Option ExternDesc
 said_whole s given None d x h k = k
 said_whole s given (Some asked) d x h k = true_false (meant_of s given asked).is_there (whole_given (map Some s.types) (type_given given) asked h.0 h.1).0 k
 
-said_lacks : (name : List ℕ) (meaning : Option (Meaning Extern)) (d x : Definition) (missing : List ℕ) → IsExported meaning d x → IsSaid meaning (λ meaning. MatchOption meaning.means ⊥ (λ extern. lacks (Some d) name extern ≡ Some missing)) → ⊥
+said_lacks : (name : List ℕ) (meaning : Option (Meaning Extern)) (d x : Definition) (missing : List ℕ) → IsExported meaning d x → IsSaid meaning (λ meaning. MatchOption meaning.means ⊥ (λ extern. lacks (Some d) name (asked_of d extern) ≡ Some missing)) → ⊥
 said_lacks name None d x missing h k = k
 said_lacks name (Some meaning) d x missing h k =
-    both_of (lacks (Some d) name h.0) missing (match_at (λ extern. lacks (Some d) name extern ≡ Some missing) meaning.means h.0 h.1 k) (fits_lacks d name h.0 h.2)
+    both_of (lacks (Some d) name (asked_of d h.0)) missing (match_at (λ extern. lacks (Some d) name (asked_of d extern) ≡ Some missing) meaning.means h.0 h.1 k) (fits_lacks d name (asked_of d h.0) h.2)
 
 said_other : (meaning : Option (Meaning Extern)) (o : Option Definition) (d x : Definition) → o ≡ Some d → IsExported meaning d x → IsSaid meaning (λ meaning. (meaning.means ≡ None) ⊎ DoesNotFit o meaning.means) → ⊥
 said_other None o d x there h k = k
@@ -307,7 +308,7 @@ export_excludes l n s e new why.Index (d, x, is, fresh, exported, made) (inl pas
 export_excludes l n s e new why.Index (d, x, is, fresh, exported, made) (inr none) = said_whole s (definition_at s e.sort e.index) e.desc d x exported none
 export_excludes l n s e new (why.Missing missing) (d, x, is, fresh, exported, made) h =
     said_lacks e.name (said s e) d x missing exported
-    (match_at (λ d. IsSaid (said s e) (λ meaning. MatchOption meaning.means ⊥ (λ extern. lacks (Some d) e.name extern ≡ Some missing))) (definition_at s e.sort e.index) d is h)
+    (match_at (λ d. IsSaid (said s e) (λ meaning. MatchOption meaning.means ⊥ (λ extern. lacks (Some d) e.name (asked_of d extern) ≡ Some missing))) (definition_at s e.sort e.index) d is h)
 export_excludes l n s e new why.Typing (d, x, is, fresh, exported, made) (inl twice) = true_false (is_among e.name (export_names s.exports)) twice fresh
 export_excludes l n s e new why.Typing (d, x, is, fresh, exported, made) (inr (inl none)) = both_of (definition_at s e.sort e.index) d is none
 export_excludes l n s e new why.Typing (d, x, is, fresh, exported, made) (inr (inr other)) = said_other (said s e) (definition_at s e.sort e.index) d x is exported other

@@ -15,6 +15,7 @@ use Rattle.comp_tree.specs.declared.instances.AliasTarget.TheVariants as target
 use Rattle.comp_tree.specs.declared.externs.ExternDesc.{ExternDesc}
 use Rattle.comp_tree.specs.declared.externs.Export as read
 use Rattle.comp_tree.specs.declared.items.CanonOption.{CanonOption}
+use Rattle.link_spec.specs.Brought.{asked_of}
 use Rattle.link_spec.specs.declared.fault.LinkWhy.TheVariants as why
 use Rattle.comp_graph.specs.Closed.{Closed, Extern, OfFunc, OfType, OfInstance, func_of}
 use Rattle.link_spec.specs.Definitions.{CoreItem, Func, Table, Memory, Global, core_named, Lifted, Definition, AFunc, AnInstance, Exports, export_names, export_named, lacks, seen_as, types_of}
@@ -272,10 +273,10 @@ given_sound l n s name asked given of_given =
     sound_there P Q meaning.means why.Typing _ missing (λ none. inr (inl none)) (λ extern is.
     sound_there P Q (export_named name given) (why.Missing name) _ index
     (λ absent. match_in (λ given. lacking (export_named name given) name meaning.means ≡ Some name) s.arguments given of_given (ap (λ (o : Option Definition). lacking o name meaning.means) absent)) (λ x found.
-    sound_checked P Q (fits x extern) why.Typing (seen_as x extern) _ missing
+    sound_checked P Q (fits x (asked_of x extern)) why.Typing (seen_as x (asked_of x extern)) _ missing
     (λ other. inr (inr (match_in (λ given. DoesNotFit (export_named name given) meaning.means) s.arguments given of_given
-    (subst (λ (o : Option Definition). DoesNotFit o meaning.means) (sym found) (subst (λ (e : Option Extern). DoesNotFit (Some x) e) (sym is) (fails (fits x extern) (fits_told x extern) other))))))
-    (λ right. (extern, seen_as x extern, is, not_true (is_among name s.imports) fresh, subst (λ (o : Option Exports). IsImported o name extern (seen_as x extern)) (sym of_given) (x, found, (fits_told x extern).0 right, refl), refl)))))))))
+    (subst (λ (o : Option Definition). DoesNotFit o meaning.means) (sym found) (subst (λ (e : Option Extern). DoesNotFit (Some x) e) (sym is) (fails (fits x (asked_of x extern)) (fits_told x (asked_of x extern)) other))))))
+    (λ right. (extern, seen_as x (asked_of x extern), is, not_true (is_among name s.imports) fresh, subst (λ (o : Option Exports). IsImported o name extern (seen_as x (asked_of x extern))) (sym of_given) (x, found, (fits_told x (asked_of x extern)).0 right, refl), refl)))))))))
 
 pub import_sound : (l : Linking) (n : ℕ) (s : Spaces) (name : List ℕ) (asked : ExternDesc) → Sound (import_has s name asked) (ImportMakes l n s name asked) (import_outcome l n s name (wanted s name asked) asked s.arguments)
 import_sound l n s name asked = by s.arguments refl
@@ -287,20 +288,20 @@ import_sound l n s name asked = by s.arguments refl
 -- Exports.
 
 abbrev SaysLack : List ℕ → Definition → Option (Meaning Extern) → List ℕ → Type 0
-SaysLack name d m missing = IsSaid m (λ meaning. MatchOption meaning.means ⊥ (λ extern. lacks (Some d) name extern ≡ Some missing))
+SaysLack name d m missing = IsSaid m (λ meaning. MatchOption meaning.means ⊥ (λ extern. lacks (Some d) name (asked_of d extern) ≡ Some missing))
 
 says_lack : (name : List ℕ) (d : Definition) (m : Option (Meaning Extern)) (missing : List ℕ) → said_lacks name d m ≡ Some missing → SaysLack name d m missing
 says_lack name d m missing h =
-    let p = then_some (λ extern. lacks (Some d) name extern) (option_and_then (λ (meaning : Meaning Extern). meaning.means) m) missing h in
+    let p = then_some (λ extern. lacks (Some d) name (asked_of d extern)) (option_and_then (λ (meaning : Meaning Extern). meaning.means) m) missing h in
     let q = then_some (λ (meaning : Meaning Extern). meaning.means) m p.0 p.1 in
-    match_in (λ (meaning : Meaning Extern). MatchOption meaning.means ⊥ (λ extern. lacks (Some d) name extern ≡ Some missing)) m q.0 q.1
-    (match_in (λ extern. lacks (Some d) name extern ≡ Some missing) q.0.means p.0 q.2 p.2)
+    match_in (λ (meaning : Meaning Extern). MatchOption meaning.means ⊥ (λ extern. lacks (Some d) name (asked_of d extern) ≡ Some missing)) m q.0 q.1
+    (match_in (λ extern. lacks (Some d) name (asked_of d extern) ≡ Some missing) q.0.means p.0 q.2 p.2)
 
 lack_said : (name : List ℕ) (d : Definition) (m : Option (Meaning Extern)) (missing : List ℕ) → SaysLack name d m missing → said_lacks name d m ≡ Some missing
 lack_said name d None missing h = absurd h
 lack_said name d (Some meaning) missing h =
-    let q = match_some (λ extern. lacks (Some d) name extern ≡ Some missing) meaning.means h in
-    found_then (λ extern. lacks (Some d) name extern) meaning.means q.0 missing q.1 q.2
+    let q = match_some (λ extern. lacks (Some d) name (asked_of d extern) ≡ Some missing) meaning.means h in
+    found_then (λ extern. lacks (Some d) name (asked_of d extern)) meaning.means q.0 missing q.1 q.2
 
 says_absent : (m : Option (Meaning Extern)) → said_is_there m ≡ false → IsSaid m (λ meaning. meaning.is_there ≡ false)
 says_absent None h = let no : true ≡ false = h in cc
@@ -324,9 +325,9 @@ export_end l n s e d is fresh clear (Some meaning) means = by meaning.means refl
     by : (o : Option Extern) → meaning.means ≡ o → Sound (export_has s e) (ExportMakes l n s e) (after (after (there_or why.Typing o) (λ extern. as_asked d extern)) (λ x. Ok (Makes (with_spaces l n (with_export s e.name x)))))
     by None none = record { has = other (inl none); clear = clear }
     by (Some extern) some =
-        sound_checked (export_has s e) (ExportMakes l n s e) (fits d extern) why.Typing (seen_as d extern) _ clear
-        (λ wrong. other (inr (subst (λ (o : Option Definition). DoesNotFit o meaning.means) (sym is) (subst (λ (x : Option Extern). DoesNotFit (Some d) x) (sym some) (fails (fits d extern) (fits_told d extern) wrong)))))
-        (λ right. (d, seen_as d extern, is, fresh, subst (λ (m : Option (Meaning Extern)). IsExported m d (seen_as d extern)) (sym means) (extern, some, (fits_told d extern).0 right, refl), refl))
+        sound_checked (export_has s e) (ExportMakes l n s e) (fits d (asked_of d extern)) why.Typing (seen_as d (asked_of d extern)) _ clear
+        (λ wrong. other (inr (subst (λ (o : Option Definition). DoesNotFit o meaning.means) (sym is) (subst (λ (x : Option Extern). DoesNotFit (Some d) x) (sym some) (fails (fits d (asked_of d extern)) (fits_told d (asked_of d extern)) wrong)))))
+        (λ right. (d, seen_as d (asked_of d extern), is, fresh, subst (λ (m : Option (Meaning Extern)). IsExported m d (seen_as d (asked_of d extern))) (sym means) (extern, some, (fits_told d (asked_of d extern)).0 right, refl), refl))
 
 pub export_sound : (l : Linking) (n : ℕ) (s : Spaces) (e : read.Export) → Sound (export_has s e) (ExportMakes l n s e) (export_outcome l n s e)
 export_sound l n s e =

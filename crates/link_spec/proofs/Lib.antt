@@ -10,6 +10,7 @@ pub mod Few
 pub mod Fitting
 pub mod Following
 pub mod Holding
+pub mod InOrder
 pub mod InstanceSamples
 pub mod ItemOutcomes
 pub mod Kept
@@ -35,4 +36,6 @@ pub mod SoundSpaces
 pub mod Sounding
 pub mod Soundness
 pub mod Telling
+pub mod Unmoved
+pub mod Unnamed
 pub mod ValueSamples

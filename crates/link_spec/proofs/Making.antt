@@ -25,6 +25,7 @@ use Rattle.comp_tree.specs.declared.items.Item.{Item, out-Item}
 use Rattle.comp_tree.specs.declared.items.Item.TheOpen.{Item-F}
 use Rattle.comp_tree.specs.declared.items.Component.{Component}
 use Rattle.comp_graph.specs.Closed.{Closed, Extern, OfFunc, OfType, OfInstance}
+use Rattle.link_spec.specs.Brought.{asked_of}
 use Rattle.link_spec.specs.Definitions.{CoreItem, CoreExport, Definition, AFunc, AnInstance, Exports, EmptyInstance, WithExport, seen_as}
 use Rattle.link_spec.specs.Canons.{given_by}
 use Rattle.link_spec.specs.Builtins.{BuiltinMeaning, builtin_meaning}
@@ -130,7 +131,7 @@ imported_once None name (OfFunc type) a b h k = absurd h
 imported_once None name (OfType type) a b h k = absurd h
 imported_once None name (OfInstance externs) a b h k = h.1 ∙ sym k.1
 imported_once (Some given) name extern a b (x, there, fits, is) (x', there', fits', is') =
-    both_made (λ x. seen_as x extern) x x' a b (one_value _ x x' there there') is is'
+    both_made (λ x. seen_as x (asked_of x extern)) x x' a b (one_value _ x x' there there') is is'
 
 import_once : (l : Linking) (n : ℕ) (s : Spaces) (name : List ℕ) (asked : ExternDesc) (a b : Linking) → import_makes l n s name asked a → import_makes l n s name asked b → a ≡ b
 import_once l n s name asked a b (extern, d, is, fresh, imported, made) (extern', d', is', fresh', imported', made') =
@@ -141,7 +142,7 @@ import_once l n s name asked a b (extern, d, is, fresh, imported, made) (extern'
 exported_once : (meaning : Option (Meaning Extern)) (d a b : Definition) → IsExported meaning d a → IsExported meaning d b → a ≡ b
 exported_once None d a b h k = h ∙ sym k
 exported_once (Some meaning) d a b (extern, is, fits, seen) (extern', is', fits', seen') =
-    both_made (λ extern. seen_as d extern) extern extern' a b (one_value _ extern extern' is is') seen seen'
+    both_made (λ extern. seen_as d (asked_of d extern)) extern extern' a b (one_value _ extern extern' is is') seen seen'
 
 export_once : (l : Linking) (n : ℕ) (s : Spaces) (e : read.Export) (a b : Linking) → export_makes l n s e a → export_makes l n s e b → a ≡ b
 export_once l n s e a b (d, x, is, fresh, exported, made) (d', x', is', fresh', exported', made') =

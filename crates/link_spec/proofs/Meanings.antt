@@ -1,5 +1,5 @@
 -- A type that has a meaning has all its indices, and misses no name.
-use Rattle.std.proofs.Common.{◌≡◌, ℕ, Bool, true, false, ◌&&◌, cond, List, [], ◌∷◌, length, map, refl, sym, subst, Option, Some, None}
+use Rattle.std.proofs.Common.{◌≡◌, ℕ, Bool, true, false, ◌+◌, ◌&&◌, cond, List, [], ◌∷◌, length, map, refl, sym, subst, Option, Some, None}
 use Rattle.std.specs.Prelude.{nat_le}
 use Rattle.std.specs.Option.{option_map}
 use Rattle.std.specs.List.{slice_get}
@@ -21,12 +21,14 @@ use Rattle.comp_tree.specs.declared.types.DefType.TheViews.{roll-InstanceDecl}
 use Rattle.comp_tree.specs.declared.types.DefType.TheOpen.{DefType-F, InstanceDecl-F}
 use Rattle.comp_tree.specs.declared.types.DefType.TheFolds.{fold-DefType, fold-InstanceDecl, fold-roll-DefType, fold-roll-InstanceDecl, ind-DefType, map-DefType, map-InstanceDecl}
 use Rattle.comp_graph.specs.Closed.{Closed, Value, Func, Resource, Instance, Extern, OfFunc, OfType, OfInstance, Externs, first_of, extern_named, externs_of, func_of}
+use Rattle.link_values.specs.Resources.{first_brought, further_in}
+use Rattle.link_spec.specs.Brought.{moved}
 use Rattle.link_spec.specs.Definitions.{Closure}
 use Rattle.link_spec.specs.Spaces.{Level}
 use Rattle.link_spec.specs.Meaning.{Meaning, absent, meant, too_deep, found, kept_if, and_told}
 use Rattle.link_spec.specs.Shallow.{depth_limit}
 use Rattle.link_spec.specs.ValueTypes.{parts_within, close_def, capped, value_meaning}
-use Rattle.link_spec.specs.Types.{all_within, close_func, func_meaning, desc_meaning, resource_meant, given_meaning, Declared, nothing_declared, own_level, with_declared, told, of_export, exported, from_instance, outer_type, outer_component, with_component, with_type, with_outer, declared_as, with_alias, sort_of, extended, with_export, declared_by, instance_meaning, InLevels, types_around, type_step, decl_step, meaning_of}
+use Rattle.link_spec.specs.Types.{all_within, close_func, func_meaning, desc_meaning, resource_meant, given_meaning, Declared, nothing_declared, own_level, with_declared, told, of_export, exported, from_instance, outer_type, outer_component, with_component, with_type, with_outer, declared_as, with_alias, sort_of, extended, as_exported, described, with_export, declared_by, instance_meaning, InLevels, types_around, type_step, decl_step, meaning_of}
 
 -- where it has a meaning, all is there and nothing is missing
 abbrev pub IsWhole : {A : Type 0} → Meaning A → Type 0
@@ -120,9 +122,9 @@ whole_as d sort extern h k = whole_declared d sort extern.means extern h k
 whole_component : (d : Declared) (c : Meaning Closure) → IsWhole d.so_far → IsWhole c → IsWhole (with_component d c).so_far
 whole_component d c h k = whole_and d.so_far c h k
 
-whole_outer_type : (index : ℕ) (o : Option Level) → IsWhole (outer_type index o)
-whole_outer_type index None = whole_absent
-whole_outer_type index (Some level) = whole_found (λ type. Some type) (slice_get level.types index)
+whole_outer_type : (up index : ℕ) (o : Option Level) → IsWhole (outer_type up index o)
+whole_outer_type up index None = whole_absent
+whole_outer_type up index (Some level) = whole_found (λ type. Some (moved (further_in up) 0 type)) (slice_get level.types index)
 
 whole_outer_component : (index : ℕ) (o : Option Level) → IsWhole (outer_component index o)
 whole_outer_component index None = whole_absent
@@ -131,7 +133,7 @@ whole_outer_component index (Some level) = whole_found (λ c. Some c) (slice_get
 whole_outer : (d : Declared) (levels : List Level) (sort : Sort) (up index : ℕ) → IsWhole d.so_far → IsWhole (with_outer d levels sort up index).so_far
 whole_outer d levels sorts.Component up index h = whole_component d (outer_component index (slice_get levels up)) h (whole_outer_component index (slice_get levels up))
 whole_outer d levels sorts.Func up index h = whole_as d sorts.Func absent h whole_absent
-whole_outer d levels sorts.Type up index h = whole_type d (outer_type index (slice_get levels up)) h (whole_outer_type index (slice_get levels up))
+whole_outer d levels sorts.Type up index h = whole_type d (outer_type up index (slice_get levels up)) h (whole_outer_type up index (slice_get levels up))
 whole_outer d levels sorts.Instance up index h = whole_as d sorts.Instance absent h whole_absent
 whole_outer d levels (sorts.Core sort) up index h = whole_as d (sorts.Core sort) absent h whole_absent
 
@@ -163,13 +165,19 @@ fresh_some : {A : Type 0} (b : Bool) (o : Option A) (x : A) → cond b None o �
 fresh_some true o x h = cc
 fresh_some false o x h = h
 
+whole_described : (d : Declared) (asked : ExternDesc) → IsWhole (described d asked)
+whole_described d desc.Resource = whole_meant (Some (OfType (Resource (first_brought 0 + d.resources))))
+whole_described d (desc.Instance index) = whole_found (as_exported d.resources) (slice_get d.types index)
+whole_described d (desc.Func index) = whole_desc d.types (desc.Func index)
+whole_described d (desc.TypeEq index) = whole_desc d.types (desc.TypeEq index)
+
 whole_with_export : (d : Declared) (name : List ℕ) (asked : ExternDesc) → IsWhole d.so_far → IsWhole (with_export d name asked).so_far
 whole_with_export d name asked h a e =
-    let extern = desc_meaning d.types asked in
+    let extern = described d asked in
     let declared = declared_as d (sort_of asked) extern in
     let p = extended_some name extern.means d.so_far.means a (fresh_some (is_among name declared.names) (extended name extern.means d.so_far.means) a e) in
     let before = h p.1.0 p.1.1 in
-    let now = whole_desc d.types asked p.0.0 p.0.1 in
+    let now = whole_described d asked p.0.0 p.0.1 in
     let there : (declared.so_far.is_there ≡ true) × (declared.so_far.missing ≡ None) =
     subst (λ (m : Meaning Externs). ((m.is_there && extern.is_there) ≡ true) × (first_of m.missing extern.missing ≡ None)) (sym (so_far_same d (sort_of asked) extern.means))
     (both d.so_far.is_there extern.is_there before.0 now.0, neither d.so_far.missing extern.missing before.1 now.1) in

@@ -16,6 +16,7 @@ use Rattle.comp_tree.specs.declared.items.Canon.TheVariants.{Lift, Lower, Builti
 use Rattle.comp_tree.specs.declared.items.Item.{Item, out-Item}
 use Rattle.comp_tree.specs.declared.items.Item.TheOpen.{Item-F}
 use Rattle.comp_tree.specs.declared.items.Component.{Component}
+use Rattle.link_spec.specs.Brought.{asked_of}
 use Rattle.link_spec.specs.declared.fault.LinkWhy.{LinkWhy}
 use Rattle.link_spec.specs.declared.fault.LinkWhy.TheVariants as why
 use Rattle.comp_graph.specs.Closed.{Closed, Extern}
@@ -52,14 +53,14 @@ alias_name l n s sort (target.Outer up index) a b h k = absurd h
 
 -- an export that is asked for and missing, of a definition and of what it is said to be
 abbrev MissesIn : read.Export → Definition → List ℕ → Meaning Extern → Type 0
-MissesIn e d missing meaning = MatchOption meaning.means ⊥ (λ extern. lacks (Some d) e.name extern ≡ Some missing)
+MissesIn e d missing meaning = MatchOption meaning.means ⊥ (λ extern. lacks (Some d) e.name (asked_of d extern) ≡ Some missing)
 
 abbrev Misses : Spaces → read.Export → List ℕ → Definition → Type 0
 Misses s e missing d = IsSaid (said s e) (MissesIn e d missing)
 
 misses_once : (e : read.Export) (d : Definition) (a b : List ℕ) (meaning : Meaning Extern) → MissesIn e d a meaning → MissesIn e d b meaning → a ≡ b
 misses_once e d a b meaning h k =
-    match_same (λ extern. lacks (Some d) e.name extern ≡ Some a) (λ extern. lacks (Some d) e.name extern ≡ Some b) a b (λ extern h k. told_once (lacks (Some d) e.name extern) a b h k) meaning.means h k
+    match_same (λ extern. lacks (Some d) e.name (asked_of d extern) ≡ Some a) (λ extern. lacks (Some d) e.name (asked_of d extern) ≡ Some b) a b (λ extern h k. told_once (lacks (Some d) e.name (asked_of d extern)) a b h k) meaning.means h k
 
 export_name : (s : Spaces) (e : read.Export) (a b : List ℕ) → export_has s e (why.Missing a) → export_has s e (why.Missing b) → a ≡ b
 export_name s e a b h k =

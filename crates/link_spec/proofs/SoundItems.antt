@@ -41,6 +41,7 @@ use Rattle.comp_tree.specs.declared.items.Item.{Item}
 use Rattle.comp_tree.specs.declared.items.Item.TheOpen.{Item-F}
 use Rattle.comp_tree.specs.declared.items.Component.{Component}
 use Rattle.comp_graph.specs.Closed.{Resource, Extern, OfFunc, OfType, OfInstance, func_of}
+use Rattle.link_spec.specs.Brought.{asked_of}
 use Rattle.link_spec.specs.Definitions.{CoreItem, Func, Table, Memory, Global, extern_of, item_of, CoreFits, CoreExport, core_named, listed, exports_of, Definition, AFunc, AType, AComponent, AnInstance, AModule, Exports, WithExport, export_named}
 use Rattle.link_spec.specs.Spaces.{CoreMake, Spaces, Linking, Level, level_of, listed_level, levels_at, core_item_at, definition_at, with_core_item, with_core_instance, with_definition, with_spaces, with_ends, outer_definition, outer_at}
 use Rattle.link_spec.specs.Ends.{noted_type}
@@ -50,7 +51,7 @@ use Rattle.link_spec.specs.Resources.{resource_written, with_resource, resource_
 use Rattle.link_spec.specs.Items.{argument_named, import_found, FindsItem, IsInline, core_instance_makes, instance_makes, alias_makes, type_makes, defined_makes, type_meaning, lifted_with, lift_makes, with_canon, lowered_with, lower_makes, builtin_makes, type_given, meant_of, given_for, wanted, IsImported, import_makes, IsExported, export_makes, makes_case}
 use Rattle.link_spec.proofs.Holding.{all_push, all_set, all_weaker, all_mapped, all_flat, all_at, all_second, zip_weaker, holds_at, if_weaker, if_mapped, if_found, if_each, if_cond, last_there}
 use Rattle.link_spec.proofs.Kept.{imported_behind, kept_imported}
-use Rattle.link_spec.proofs.Apart.{IsFuncApart, IsApart, IsExternApart, IsKnownApart, of_func_apart, meant_apart}
+use Rattle.link_spec.proofs.Apart.{IsFuncApart, IsApart, IsExternApart, IsKnownApart, of_func_apart, meant_apart, asked_apart}
 use Rattle.link_spec.proofs.ApartMeanings.{IsLevelApart, AreLevelsApart, meaning_apart}
 use Rattle.link_spec.proofs.BuiltinsLend.{builtin_lends}
 use Rattle.link_spec.proofs.Modules.{ShapeHas}
@@ -302,7 +303,7 @@ module _ (R : ModuleTree → Type 0) where
 
   imported_sound : (cores : List CoreMake) (canons : List CanonFunc) (arguments : Option Exports) (name : List ℕ) (extern : Extern) (d : Definition) → IfSome arguments (AreSound R cores canons) → IsExternApart extern → IsImported arguments name extern d → IsSound R cores canons d
   imported_sound cores canons (Some given) name extern d h k (x, is, fits, e) =
-      subst (IsSound R cores canons) (sym e) (seen_sound R cores canons x extern (holds_at (IsSound R cores canons) (export_named name given) x (named_sound R cores canons name given h) is) k)
+      subst (IsSound R cores canons) (sym e) (seen_sound R cores canons x (asked_of x extern) (holds_at (IsSound R cores canons) (export_named name given) x (named_sound R cores canons name given h) is) (asked_apart x extern k))
   imported_sound cores canons None name (OfInstance externs) d h k (types, e) = subst (IsSound R cores canons) (sym e) (types_sound R cores canons externs k)
   imported_sound cores canons None name (OfFunc type) d h k i = absurd i
   imported_sound cores canons None name (OfType type) d h k i = absurd i
@@ -315,7 +316,7 @@ module _ (R : ModuleTree → Type 0) where
   exported_sound : (cores : List CoreMake) (canons : List CanonFunc) (s : Spaces) (given : Option Definition) (asked : Option ExternDesc) (d x : Definition) → AreSpacesSound R cores canons s → IsSound R cores canons d → IsExported (option_map (meant_of s given) asked) d x → IsSound R cores canons x
   exported_sound cores canons s given None d x k h e = subst (IsSound R cores canons) (sym e) h
   exported_sound cores canons s given (Some asked) d x k h (extern, means, fits, e) =
-      subst (IsSound R cores canons) (sym e) (seen_sound R cores canons d extern h (holds_at IsExternApart (meant_of s given asked).means extern (given_apart cores canons s given asked k) means))
+      subst (IsSound R cores canons) (sym e) (seen_sound R cores canons d (asked_of d extern) h (asked_apart d extern (holds_at IsExternApart (meant_of s given asked).means extern (given_apart cores canons s given asked k) means)))
 
   export_reached : (l : Linking) (n : ℕ) (s : Spaces) (e : read.Export) (new : Linking) → IsLinkingSound R l → AreSpacesSound R l.cores l.canons s → export_makes l n s e new → IsReached R l new
   export_reached l n s e new h k (d, x, is, fresh, exported, made) =

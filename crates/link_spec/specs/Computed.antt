@@ -38,6 +38,7 @@ use Rattle.link_spec.specs.Definitions.{CoreItem, CoreExport, core_named, Lifted
 use Rattle.link_spec.specs.Canons.{Given, given_by, stand_once, is_option_there, is_of_core_type, can_be_lifted, can_be_lowered}
 use Rattle.link_spec.specs.Builtins.{BuiltinMeaning, builtin_meaning}
 use Rattle.link_spec.specs.Resources.{resource_written, with_resource}
+use Rattle.link_spec.specs.Brought.{asked_of}
 use Rattle.link_spec.specs.Types.{Meaning}
 use Rattle.link_spec.specs.Spaces.{Spaces, Linking, core_size, size_of, core_item_at, definition_at, with_core_item, with_core_instance, with_definition, with_spaces, outer_at}
 use Rattle.link_spec.specs.Items.{instance_limit, argument_named, core_made, type_made, type_meaning, lifted_with, lower_made, builtin_made, wanted, lacking, with_import, said, with_export}
@@ -237,7 +238,7 @@ root_given extern = Err why.RootImport
 
 -- what is given, as it is asked for
 abbrev pub as_asked : Definition → Extern → Result Definition LinkWhy
-as_asked d extern = only_if (fits d extern) why.Typing (Ok (seen_as d extern))
+as_asked d extern = only_if (fits d (asked_of d extern)) why.Typing (Ok (seen_as d (asked_of d extern)))
 
 abbrev pub import_outcome : Linking → ℕ → Spaces → List ℕ → Meaning Extern → ExternDesc → Option Exports → Result Outcome LinkWhy
 import_outcome l n s name meaning asked None =
@@ -262,7 +263,7 @@ abbrev pub said_is_there : Option (Meaning Extern) → Bool
 said_is_there meaning = option_map_or (λ (meaning : Meaning Extern). meaning.is_there) meaning true
 
 abbrev pub said_lacks : List ℕ → Definition → Option (Meaning Extern) → Option (List ℕ)
-said_lacks name d meaning = option_and_then (λ extern. lacks (Some d) name extern) (option_and_then (λ (meaning : Meaning Extern). meaning.means) meaning)
+said_lacks name d meaning = option_and_then (λ extern. lacks (Some d) name (asked_of d extern)) (option_and_then (λ (meaning : Meaning Extern). meaning.means) meaning)
 
 abbrev pub as_said : Definition → Option (Meaning Extern) → Result Definition LinkWhy
 as_said d None = Ok d

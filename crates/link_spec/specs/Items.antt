@@ -47,6 +47,7 @@ use Rattle.link_spec.specs.Canons.{IsOptionThere, StandOnce, Given, given_by, op
 use Rattle.link_spec.specs.Builtins.{BuiltinMeaning, builtin_meaning}
 use Rattle.link_spec.specs.Resources.{resource_written, resource_has, resource_makes}
 use Rattle.link_spec.specs.Ends.{noted_type, noted_canon}
+use Rattle.link_spec.specs.Brought.{asked_of}
 use Rattle.link_spec.specs.Types.{Meaning, meaning_of, given_meaning}
 use Rattle.link_spec.specs.Spaces.{Spaces, Make, Linking, core_size, size_of, core_item_at, definition_at, IsOfCoreSort, IsOfSort, with_core_item, with_core_instance, with_definition, with_spaces, with_ends, levels_at, outer_at}
 
@@ -336,10 +337,10 @@ IsRootImport meaning other = Unit {0}
 abbrev pub lacking : Option Definition → List ℕ → Option Extern → Option (List ℕ)
 lacking None name extern = Some name
 lacking (Some d) name None = None
-lacking (Some d) name (Some extern) = lacks (Some d) name extern
+lacking (Some d) name (Some extern) = lacks (Some d) name (asked_of d extern)
 
 abbrev pub DoesNotFit : Option Definition → Option Extern → Type 0
-DoesNotFit (Some d) (Some extern) = Fits d extern → ⊥
+DoesNotFit (Some d) (Some extern) = Fits d (asked_of d extern) → ⊥
 DoesNotFit d extern = ⊥
 
 -- An import of the root of a function or a type, or of an instance whose exports are not all types; an index that is not there; an
@@ -358,10 +359,10 @@ import_has s name asked why = ⊥
 abbrev pub with_import : Spaces → List ℕ → Definition → Spaces
 with_import s name d = with_definition (record s { imports = s.imports ++ name ∷ [] }) d
 
--- what an import is: the argument, as it is asked for; of the root, an instance of the types
+-- what an import is: the argument, as it is asked for, where it stands for what it brings; of the root, an instance of the types
 abbrev pub IsImported : Option Exports → List ℕ → Extern → Definition → Type 0
 IsImported (Some given) name extern d =
-    (x : Definition) × (export_named name given ≡ Some x) × Fits x extern × (d ≡ seen_as x extern)
+    (x : Definition) × (export_named name given ≡ Some x) × Fits x (asked_of x extern) × (d ≡ seen_as x (asked_of x extern))
 IsImported None name (OfInstance externs) d = AreTypes externs × (d ≡ AnInstance (types_of externs))
 IsImported None name extern d = ⊥
 
@@ -384,7 +385,7 @@ IsSaid meaning P = MatchOption meaning ⊥ P
 abbrev pub export_has : Spaces → read.Export → LinkWhy → Type 0
 export_has s e why.Index = (size_of s e.sort ≤ e.index) ⊎ IsSaid (said s e) (λ meaning. meaning.is_there ≡ false)
 export_has s e (why.Missing missing) =
-    MatchOption (definition_at s e.sort e.index) ⊥ (λ d. IsSaid (said s e) (λ meaning. MatchOption meaning.means ⊥ (λ extern. lacks (Some d) e.name extern ≡ Some missing)))
+    MatchOption (definition_at s e.sort e.index) ⊥ (λ d. IsSaid (said s e) (λ meaning. MatchOption meaning.means ⊥ (λ extern. lacks (Some d) e.name (asked_of d extern) ≡ Some missing)))
 export_has s e why.Typing =
     (is_among e.name (export_names s.exports) ≡ true) ⊎ (definition_at s e.sort e.index ≡ None)
     ⊎ IsSaid (said s e) (λ meaning. (meaning.means ≡ None) ⊎ DoesNotFit (definition_at s e.sort e.index) meaning.means)
@@ -396,7 +397,7 @@ with_export s name d = with_definition (record s { exports = WithExport s.export
 -- what is exported: the definition, as it is said to be
 abbrev pub IsExported : Option (Meaning Extern) → Definition → Definition → Type 0
 IsExported None d x = x ≡ d
-IsExported (Some meaning) d x = (extern : Extern) × (meaning.means ≡ Some extern) × Fits d extern × (x ≡ seen_as d extern)
+IsExported (Some meaning) d x = (extern : Extern) × (meaning.means ≡ Some extern) × Fits d (asked_of d extern) × (x ≡ seen_as d (asked_of d extern))
 
 abbrev pub export_makes : Linking → ℕ → Spaces → read.Export → Linking → Type 0
 export_makes l n s e new =

@@ -1,3 +1,4 @@
+pub mod Brought
 pub mod Builtins
 pub mod Canons
 pub mod Computed

@@ -2,8 +2,8 @@
 -- names that it looks up are found, and all that it names is of the wanted sort. What keeps it from a meaning is told by
 -- its reason. A declaration of an instance type adds an index also where it has no meaning, so that each reason is looked for
 -- over the whole type.
-use Rattle.std.specs.Prelude.{ℕ, Bool, ◌&&◌, is_none, cond, List, [], ◌∷◌, ◌++◌, length, map, Option, Some, None}
-use Rattle.std.specs.Option.{option_map, option_and_then}
+use Rattle.std.specs.Prelude.{ℕ, ◌+◌, Bool, ◌&&◌, is_none, cond, List, [], ◌∷◌, ◌++◌, length, map, Option, Some, None}
+use Rattle.std.specs.Option.{option_map, option_and_then, option_map_or}
 use Rattle.std.specs.List.{slice_get, list_all}
 use Rattle.ca_base.specs.Names.{first_twice, is_among}
 use Rattle.ca_types.specs.declared.types.Param.{Param}
@@ -19,6 +19,8 @@ use Rattle.comp_tree.specs.declared.types.FuncType as read_func
 use Rattle.comp_tree.specs.declared.types.DefType.{DefType, fold-DefType}
 use Rattle.comp_tree.specs.declared.types.DefType.TheOpen.{DefType-F, InstanceDecl-F}
 use Rattle.comp_graph.specs.Closed.{Closed, Func, Resource, Instance, Extern, OfFunc, OfType, OfInstance, Externs, EmptyType, WithExtern, extern_named, externs_of, func_of}
+use Rattle.link_values.specs.Resources.{first_brought, further_in, brought_behind}
+use Rattle.link_spec.specs.Brought.{moved, moved_externs, brought}
 use Rattle.link_spec.specs.Definitions.{Closure}
 use Rattle.link_spec.specs.Spaces.{Level}
 pub use Rattle.link_spec.specs.Meaning.{Meaning, absent, meant, lacking_name, found, kept_if, and_told}
@@ -80,10 +82,12 @@ pub record Declared : Type 0 where
   pub components : List (Option Closure)
   pub instances : List (Option Externs)
   pub names : List (List ℕ)
+  -- how many resources its exports bring so far
+  pub resources : ℕ
   pub so_far : Meaning Externs
 
 abbrev pub nothing_declared : Declared
-nothing_declared = record { types = []; components = []; instances = []; names = []; so_far = meant (Some EmptyType) }
+nothing_declared = record { types = []; components = []; instances = []; names = []; resources = 0; so_far = meant (Some EmptyType) }
 
 abbrev pub own_level : Declared → Level
 own_level d = record { types = d.types; components = d.components }
@@ -128,10 +132,10 @@ abbrev pub from_instance : Sort → List ℕ → Option (Option Externs) → Mea
 from_instance sort name None = absent
 from_instance sort name (Some known) = exported sort name known
 
--- an outer type of a level
-abbrev pub outer_type : ℕ → Option Level → Meaning Closed
-outer_type index None = absent
-outer_type index (Some level) = found (λ type. Some type) (slice_get level.types index)
+-- an outer type of the level so many levels further out
+abbrev pub outer_type : ℕ → ℕ → Option Level → Meaning Closed
+outer_type up index None = absent
+outer_type up index (Some level) = found (λ type. Some (moved (further_in up) 0 type)) (slice_get level.types index)
 
 abbrev pub outer_component : ℕ → Option Level → Meaning Closure
 outer_component index None = absent
@@ -151,7 +155,7 @@ declared_as d sort extern = told (with_declared d sort extern.means) extern
 -- an outer alias, which is of a component or a type
 abbrev pub with_outer : Declared → List Level → Sort → ℕ → ℕ → Declared
 with_outer d levels sorts.Component up index = with_component d (outer_component index (slice_get levels up))
-with_outer d levels sorts.Type up index = with_type d (outer_type index (slice_get levels up))
+with_outer d levels sorts.Type up index = with_type d (outer_type up index (slice_get levels up))
 with_outer d levels sort up index = declared_as d sort absent
 
 -- An alias. An instance type has no core instances.
@@ -177,9 +181,31 @@ under_name d before name extern = record d {
   so_far = record d.so_far { means = cond (is_among name d.names) None (extended name extern before) };
 }
 
+-- What an export is to be: any type of resources is the next one that the instance type brings, and what the type of an instance
+-- brings comes behind what was brought so far.
+abbrev pub as_exported : ℕ → Closed → Option Extern
+as_exported resources type = option_map (λ externs. OfInstance (moved_externs (brought_behind resources) 0 externs)) (externs_of type)
+
+abbrev pub described : Declared → ExternDesc → Meaning Extern
+described d desc.Resource = meant (Some (OfType (Resource (first_brought 0 + d.resources))))
+described d (desc.Instance index) = found (as_exported d.resources) (slice_get d.types index)
+described d asked = desc_meaning d.types asked
+
+-- how many resources an export brings
+abbrev pub brought_by : Option Externs → ℕ
+brought_by externs = option_map_or brought externs 0
+
+abbrev pub brings : Declared → ExternDesc → ℕ
+brings d desc.Resource = 1
+brings d (desc.Instance index) = brought_by (option_and_then externs_of (option_and_then (λ type. type) (slice_get d.types index)))
+brings d asked = 0
+
+abbrev pub with_described : Declared → List ℕ → ExternDesc → Meaning Extern → Declared
+with_described d name asked extern =
+    under_name (record (declared_as d (sort_of asked) extern) { resources = d.resources + brings d asked }) d.so_far.means name extern.means
+
 abbrev pub with_export : Declared → List ℕ → ExternDesc → Declared
-with_export d name asked =
-    under_name (declared_as d (sort_of asked) (desc_meaning d.types asked)) d.so_far.means name (desc_meaning d.types asked).means
+with_export d name asked = with_described d name asked (described d asked)
 
 -- An instance type: its declarations, each behind those before it.
 abbrev pub declared_by : List Level → Declared → List (List Level → Declared → Declared) → Declared

@@ -38,6 +38,7 @@
 //! - `resources`: types of resources, their destructors and built-ins
 //! - `handles`: types of handles, and what passes them
 //! - `asked_resources`: imports and exports that are asked to be types of resources
+//! - `brought`: instance types that bring resources, and what is given for these
 //! - `unlinked`: what is read and not linked yet
 //! - `noted`: the types of streams and futures that graphs tell, each in a line
 //!

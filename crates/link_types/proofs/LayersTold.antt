@@ -5,12 +5,12 @@ use Rattle.ca_types.specs.declared.types.ValType.{ValType}
 use Rattle.ca_types.specs.declared.types.Param.{Param}
 use Rattle.ca_types.specs.declared.types.FuncType.{FuncType}
 use Rattle.comp_graph.specs.Closed.{Closed, Value, Func, Resource, Instance, Extern, OfFunc, OfType, OfInstance, Externs, EmptyType, WithExtern}
-use Rattle.link_types.specs.declared.layers.TypeLayer.{TypeLayer}
-use Rattle.link_types.specs.declared.layers.TypeLayer.TheVariants as of_type
-use Rattle.link_types.specs.declared.layers.ExternLayer.{ExternLayer}
-use Rattle.link_types.specs.declared.layers.ExternLayer.TheVariants as of_extern
-use Rattle.link_types.specs.declared.layers.Layer.{Layer}
-use Rattle.link_types.specs.declared.layers.Layer.TheVariants as layer
+use Rattle.link_values.specs.declared.layers.TypeLayer.{TypeLayer}
+use Rattle.link_values.specs.declared.layers.TypeLayer.TheVariants as of_type
+use Rattle.link_values.specs.declared.layers.ExternLayer.{ExternLayer}
+use Rattle.link_values.specs.declared.layers.ExternLayer.TheVariants as of_extern
+use Rattle.link_values.specs.declared.layers.Layer.{Layer}
+use Rattle.link_values.specs.declared.layers.Layer.TheVariants as layer
 use Rattle.link_types.specs.Numbering.{AreApart}
 use Rattle.link_types.specs.Layered.{MayBeValue, IsParams, IsFuncLayer, IsExternsLayer, IsExternLayer, IsTypeLayer}
 

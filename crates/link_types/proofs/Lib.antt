@@ -1,11 +1,10 @@
 pub mod FuncsLaid
-pub mod LayerOrder
-pub mod LayersAdded
 pub mod LayersTold
-pub mod Listings
 pub mod NamedResources
 pub mod ParamsTyped
 pub mod RefsSame
+pub mod Renumbered
+pub mod RenumberedMade
 pub mod TypesGrow
 pub mod TypesKept
 pub mod TypesMade

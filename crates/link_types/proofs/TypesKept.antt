@@ -7,7 +7,7 @@ use Rattle.ca_types.specs.declared.types.ValType.{ValType}
 use Rattle.ca_types.specs.declared.types.FuncType.{FuncType}
 use Rattle.comp_graph.specs.declared.func_types.NumberedFunc.{NumberedFunc}
 use Rattle.comp_graph.specs.Passed.{params_type, IsNumbered, AreNumbered}
-use Rattle.link_types.specs.declared.layers.Layer.{Layer}
+use Rattle.link_values.specs.declared.layers.Layer.{Layer}
 use Rattle.link_types.specs.Numbering.{AreApart, IsAdded}
 use Rattle.link_types.specs.Table.{Table, AreDistinct, Grows}
 use Rattle.link_types.specs.Kept.{IsKept}

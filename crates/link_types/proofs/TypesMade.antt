@@ -11,8 +11,8 @@ use Rattle.ca_types.specs.declared.types.FuncType.{FuncType}
 use Rattle.comp_graph.specs.Closed.{Extern, Externs, WithExtern, names_in_extern}
 use Rattle.comp_graph.specs.declared.func_types.NumberedFunc.{NumberedFunc}
 use Rattle.link_types.specs.declared.labels.LabelledType.{LabelledType}
-use Rattle.link_types.specs.declared.layers.ExternLayer.{ExternLayer}
-use Rattle.link_types.specs.declared.layers.Layer.TheVariants as layer
+use Rattle.link_values.specs.declared.layers.ExternLayer.{ExternLayer}
+use Rattle.link_values.specs.declared.layers.Layer.TheVariants as layer
 use Rattle.link_types.specs.declared.maker.InstanceTypeMaker.{InstanceTypeMaker}
 use Rattle.link_types.specs.declared.refs.ExternRef.{ExternRef}
 use Rattle.link_types.specs.Labels.{IsParam, IsFuncOf}

@@ -3,8 +3,8 @@ use Rattle.std.specs.Prelude.{◌≡◌, ◌<◌, ℕ, List, length}
 use Rattle.ca_types.specs.declared.types.ValType.{ValType}
 use Rattle.ca_types.specs.declared.types.FuncType.{FuncType}
 use Rattle.comp_graph.specs.Closed.{Closed, Extern, Externs}
-use Rattle.link_types.specs.declared.layers.TypeLayer.{TypeLayer}
-use Rattle.link_types.specs.declared.layers.Layer.{Layer}
+use Rattle.link_values.specs.declared.layers.TypeLayer.{TypeLayer}
+use Rattle.link_values.specs.declared.layers.Layer.{Layer}
 use Rattle.link_types.specs.declared.refs.FuncTypeRef.{FuncTypeRef}
 use Rattle.link_types.specs.declared.refs.InstanceTypeRef.{InstanceTypeRef}
 use Rattle.link_types.specs.declared.refs.TypeRef.{TypeRef}

@@ -1,8 +1,8 @@
 -- The outer layers of the types (Component Model, Explainer.md, "Type Definitions") that references stand for.
-use Rattle.link_types.specs.declared.layers.TypeLayer.{TypeLayer}
-use Rattle.link_types.specs.declared.layers.TypeLayer.TheVariants as of_type
-use Rattle.link_types.specs.declared.layers.ExternLayer.{ExternLayer}
-use Rattle.link_types.specs.declared.layers.ExternLayer.TheVariants as of_extern
+use Rattle.link_values.specs.declared.layers.TypeLayer.{TypeLayer}
+use Rattle.link_values.specs.declared.layers.TypeLayer.TheVariants as of_type
+use Rattle.link_values.specs.declared.layers.ExternLayer.{ExternLayer}
+use Rattle.link_values.specs.declared.layers.ExternLayer.TheVariants as of_extern
 use Rattle.link_types.specs.declared.refs.TypeRef.{TypeRef}
 use Rattle.link_types.specs.declared.refs.TypeRef.TheVariants as type_ref
 use Rattle.link_types.specs.declared.refs.ExternRef.{ExternRef}

@@ -1,11 +1,10 @@
 pub mod Begun
+pub mod Changes
 pub mod Kept
 pub mod Labels
 pub mod Laid
 pub mod Laws
 pub mod Layered
 pub mod Layering
-pub mod Listed
 pub mod Numbering
-pub mod Order
 pub mod Table

@@ -5,11 +5,10 @@ ghost use Rattle.comp_graph.specs.Closed.{Extern, Externs, EmptyType, WithExtern
 ghost use Rattle.link_types.specs.Table.{IsName, IsExtern, IsInstanceType, Grows};
 ghost use Rattle.link_types.specs.Begun.{IsBegun};
 
-use crate::layers::Layer;
-use crate::listing::Listing;
 use crate::naming::names_behind;
 use crate::refs::{ExternRef, InstanceTypeRef};
 use crate::types::Types;
+use link_values::{Layer, Listing};
 use std::alloc::{AllocError, Global};
 
 /// A type of instances that is being made: its exports so far.

@@ -3,7 +3,7 @@
 ghost use Rattle.std.specs.Prelude.{◌≡◌, IsTrue};
 ghost use Rattle.link_types.specs.Layering.{type_layer, extern_layer};
 
-use crate::layers::{ExternLayer, TypeLayer};
+use link_values::{ExternLayer, TypeLayer};
 
 /// A function type of a table.
 #[derive(Clone, Copy, PartialEq)]

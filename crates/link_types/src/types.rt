@@ -17,17 +17,19 @@ ghost use Rattle.link_types.specs.Table.{no_types, IsName, IsValue, IsFunc, IsTy
 use crate::kept_func::KeptFunc;
 use crate::labels::{LabelledType, label_texts, type_numbers};
 use crate::laid_func::LaidFunc;
-use crate::layers::{Layer, Layers};
-use crate::listing::Listing;
 use crate::refs::{ExternRef, FuncTypeRef, InstanceTypeRef, TypeRef, are_same};
 use ca_base::Name;
 use ca_types::{FuncType, Shared};
 use comp_graph::{FuncTypes, NumberedFunc};
 use laid_types::{LaidType, ValTypeLayer};
-use link_values::{Names, ValueTypes};
+use link_values::{Layer, Layers, Listing, Names, ValueTypes};
 use std::alloc::{AllocError, Global};
 use std::collections::BTreeMap;
 use std::marker::Model;
+
+/// How many layers of types may be gone through where numbers of resources are changed. A type that stands in others over and over
+/// comes to more, and then there is no memory for it.
+const STEP_LIMIT: usize = 4_194_304;
 
 /// Types, each layer of them once: two types are the same exactly where the numbers of their layers are. A type that is in
 /// another one stands there by its number, so nothing here nests. Contracts see the texts of names, the types of values, the
@@ -45,13 +47,15 @@ pub struct Types<'a> {
     func_numbers: BTreeMap<usize, usize>,
     /// The number of a listing of exports of a layer, so that a type that is made twice is kept once.
     instance_numbers: BTreeMap<usize, usize>,
+    /// How many layers may still be gone through.
+    steps: usize,
 }
 
 impl<'a> Model for Types<'a> {
     ghost use Rattle.std.specs.Coded.{codes};
     ghost use Rattle.ca_types.specs.contracts.types.ValType as val_type;
     ghost use Rattle.ca_types.specs.contracts.types.FuncType as func_type;
-    ghost use Rattle.link_types.specs.contracts.layers.Layer as layer;
+    ghost use Rattle.link_values.specs.contracts.layers.Layer as layer;
     ghost use Rattle.link_types.specs.contracts.refs.ExternRef as extern_ref;
     ghost use Rattle.link_types.specs.Table.{Table};
     ghost use Rattle.link_types.specs.Kept.{IsKept};
@@ -79,7 +83,19 @@ impl<'a> Types<'a> {
             instances: Vec::new(alloc),
             func_numbers: BTreeMap::new(alloc),
             instance_numbers: BTreeMap::new(alloc),
+            steps: STEP_LIMIT,
         }
+    }
+
+    /// Takes so many of the steps that are allowed for changes of types. It fails where fewer are left.
+    pub fn take_steps(&mut self, count: usize) -> Result<(), AllocError>
+        ensures { self.new ≡ self.old }
+    {
+        if count > self.steps {
+            return Err(AllocError);
+        }
+        self.steps -= count;
+        Ok(())
     }
 
     /// The number of a name, which is added where its text is not there. It fails for want of memory alone, as do all calls
@@ -91,6 +107,33 @@ impl<'a> Types<'a> {
         Ok(self.names.number_of(text)?)
     }
 
+    /// The number of a name whose text is there.
+    pub(crate) fn find_name(&self, text: &str) -> Option<usize>
+        ensures { IfSome result (λ number. IsName self.now number text.now) }
+    {
+        self.names.find(text)
+    }
+
+    /// Keeps the text of a label among those of names.
+    fn keep_label(&mut self, label: &'a str) -> Result<(), AllocError>
+        ensures values { self.new.values ≡ self.old.values }
+        ensures grows { Grows self.old self.new }
+    {
+        self.names.number_of(label)?;
+        Ok(())
+    }
+
+    /// Keeps the texts of labels among those of names.
+    fn keep_labels(&mut self, labels: &[&'a str]) -> Result<(), AllocError>
+        ensures values { self.new.values ≡ self.old.values }
+        ensures grows { Grows self.old self.new }
+    {
+        for label in labels {
+            self.keep_label(*label)?;
+        }
+        Ok(())
+    }
+
     /// The text of a name.
     pub fn text(&self, number: usize) -> Option<&'a str>
         ensures { MatchOption result (slice_get self.now.texts number ≡ None) (λ text. IsName self.now number text.now) }
@@ -98,8 +141,25 @@ impl<'a> Types<'a> {
         self.names.text(number)
     }
 
-    /// The number of the value type of a layer, whose parts are there. It is added where it is not there.
+    /// The number of the value type of a layer, whose parts are there. It is added where it is not there. The texts of its labels are kept
+    /// among those of names.
     pub fn value_type(
+        &mut self,
+        alloc: Global,
+        layer: &ValTypeLayer<'_, 'a>,
+    ) -> Result<usize, AllocError>
+        requires { AreThere self.old.values (part_numbers layer.now) }
+        ensures ok { IfOk result (λ number. IsValue self.new number (type_of self.old.values layer.now)) }
+        ensures grows { Grows self.old self.new }
+    {
+        let labels = layer.labels(alloc)?;
+        self.keep_labels(&labels)?;
+        let number = self.value_number(alloc, layer)?;
+        Ok(number)
+    }
+
+    /// The same, where the labels are kept.
+    fn value_number(
         &mut self,
         alloc: Global,
         layer: &ValTypeLayer<'_, 'a>,

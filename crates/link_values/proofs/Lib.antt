@@ -5,8 +5,13 @@ pub mod KeyOrder
 pub mod KeysOfLayers
 pub mod KeysTold
 pub mod LabelsAdded
+pub mod LayerOrder
+pub mod LayersAdded
+pub mod Listings
 pub mod ListOrder
 pub mod NamesAdded
 pub mod Numbered
 pub mod NumbersTold
+pub mod Renumbered
 pub mod TypesSame
+pub mod Unnamed

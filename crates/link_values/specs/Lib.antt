@@ -1,5 +1,9 @@
+pub mod Changes
 pub mod Keyed
 pub mod Keys
 pub mod Labels
 pub mod Laws
+pub mod Listed
 pub mod Numbering
+pub mod Order
+pub mod Resources

@@ -6,15 +6,24 @@
 //! - `keys`: what tells types apart
 //! - `keyed_types`: types found by their keys
 //! - `value_types`: the table of types of values
+//! - `layers`: the layers of types of functions and of instances, each once, by number
+//! - `listing`: what stands under names, in order
+//! - `changes`: changes of the numbers of resources
 //! - `laws`: what holds of such tables
 #![tactic(auto)]
 
+mod changes;
 mod keyed_types;
 mod keys;
 mod label_lists;
 pub mod laws;
+mod layers;
+mod listing;
 mod names;
 mod value_types;
 
+pub use changes::{Change, first_brought};
+pub use layers::{ExternLayer, Layer, Layers, TypeLayer};
+pub use listing::Listing;
 pub use names::Names;
 pub use value_types::ValueTypes;

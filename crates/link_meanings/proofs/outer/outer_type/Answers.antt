@@ -1,17 +1,23 @@
-use Rattle.std.proofs.Common.{◌∙◌, sym, subst, Option}
+use Rattle.std.proofs.Common.{◌∙◌, ap, sym, subst, Option, Some}
+use Rattle.link_types.specs.declared.refs.TypeRef.{TypeRef}
 use Rattle.link_meanings.specs.declared.levels.Enclosing.{Enclosing}
 use Rattle.link_meanings.specs.Meant.{IsFoundAs}
 use Rattle.link_meanings.specs.Levels.{IsEnclosing}
-use Rattle.link_meanings.proofs.Enclosed.{type_absent, type_named}
+use Rattle.link_meanings.proofs.Enclosed.{type_absent, type_unknown, type_moved}
 use Rattle.link_meanings.proofs.outer.outer_type.Goals as goal
 
-pub returns-in-Some-type_at : goal.returns-in-Some-type_at
-returns-in-Some-type_at c = λ t closures l h.
-    rw c.there.ensures
-    (type_named t closures c.args.index c.in-Some.level l c.in-Some-type_at.means (subst (λ (o : Option Enclosing). IsFoundAs (IsEnclosing t closures) o l) c.in-Some.is h)
-    (sym c.type_at.ensures ∙ c.in-Some-type_at.is))
-
-pub returns-in-None : goal.returns-in-None
-returns-in-None c = λ t closures l h.
+pub returns-in-None-clause-ok : goal.returns-in-None-clause-ok
+returns-in-None-clause-ok c = λ closures l h.
     rw c.absent-in-None.ensures
-    (type_absent t closures c.args.index c.in-Some.level l (subst (λ (o : Option Enclosing). IsFoundAs (IsEnclosing t closures) o l) c.in-Some.is h) (sym c.type_at.ensures ∙ c.in-None.is))
+    (type_absent c.args.types.now closures c.args.up c.args.index c.in-Some.level l (subst (λ (o : Option Enclosing). IsFoundAs (IsEnclosing c.args.types.now closures) o l) c.in-Some.is h) (sym c.type_at.ensures ∙ c.in-None.is))
+
+pub returns-in-Some-None-clause-ok : goal.returns-in-Some-None-clause-ok
+returns-in-Some-None-clause-ok c = λ closures l h.
+    rw c.there.ensures
+    (type_unknown c.args.types.now closures c.args.up c.args.index c.in-Some.level l (subst (λ (o : Option Enclosing). IsFoundAs (IsEnclosing c.args.types.now closures) o l) c.in-Some.is h) (sym c.type_at.ensures ∙ c.in-Some-None.is ∙ ap (λ (o : Option TypeRef). Some o) c.in-Some-None.field-0-is))
+
+pub returns-in_ok-moved-in-Some-Some-clause-ok : goal.returns-in_ok-moved-in-Some-Some-clause-ok
+returns-in_ok-moved-in-Some-Some-clause-ok c = λ closures l h.
+    rw c.there-in-Some-Some.ensures
+    (type_moved c.args.types.now closures c.moved_type.new.types c.args.up c.args.index c.in-Some.level l c.in-Some-Some.closed c.in_ok-moved-in-Some-Some.moved
+    (subst (λ (o : Option Enclosing). IsFoundAs (IsEnclosing c.args.types.now closures) o l) c.in-Some.is h) (sym c.type_at.ensures ∙ c.in-Some-Some.is ∙ ap (λ (o : Option TypeRef). Some o) c.in-Some-Some.field-0-is) c.in_ok-moved-in-Some-Some.ensures.ok)

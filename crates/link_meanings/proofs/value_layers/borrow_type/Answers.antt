@@ -1,4 +1,4 @@
-use Rattle.std.proofs.Common.{refl, sym, Some}
+use Rattle.std.proofs.Common.{refl, sym}
 use Rattle.ca_types.specs.declared.types.ValType.TheVariants as leaves
 use Rattle.link_meanings.proofs.value_layers.borrow_type.Goals as goal
 

@@ -1,4 +1,4 @@
-use Rattle.std.proofs.Common.{◌≡◌, ◌∙◌, ℕ, ap, sym, Some}
+use Rattle.std.proofs.Common.{◌∙◌, ℕ, ap, sym, Some}
 use Rattle.link_meanings.specs.Levels.{enclosed_types}
 use Rattle.link_meanings.proofs.Labelled.{resource_stands}
 use Rattle.link_meanings.proofs.values.resource_of.Goals as goal

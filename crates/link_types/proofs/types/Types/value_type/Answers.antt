@@ -1,15 +1,16 @@
-use Rattle.link_types.specs.Table.{Table}
-use Rattle.laid_types.specs.Layers.{type_of}
-use Rattle.link_types.proofs.TypesGrow.{values_grow}
-use Rattle.link_types.proofs.TypesKept.{values_more}
+use Rattle.std.proofs.Common.{List, subst, sym}
+use Rattle.ca_types.specs.declared.types.ValType.{ValType}
+use Rattle.laid_types.specs.Layers.{AreThere, type_of, part_numbers}
+use Rattle.link_types.specs.Table.{IsValue}
+use Rattle.link_types.proofs.TypesGrow.{grows_trans}
 use Rattle.link_types.proofs.types.Types.value_type.Goals as goal
 
-pub invariant_of-self-2 : goal.invariant_of-self-2
-invariant_of-self-2 c =
-    let t : Table = record { texts = c.self.inside.names; values = c.self.inside.values; layers = c.self.inside.layers; funcs = c.self.inside.funcs.items; instances = c.self.inside.instances.items } in
-    values_more c.self.inside.func_numbers c.self.inside.numbered.items t c.number_of.new.self (type_of c.self.inside.values c.args.layer.now) c.in_ok-number_of.field-0 c.self.invariant c.in_ok-number_of.ensures.ok c.in_ok-number_of.ensures.apart
+pub value_number-requires : goal.value_number-requires
+value_number-requires c = subst (λ (values : List ValType). AreThere values (part_numbers c.args.layer.now)) (sym c.keep_labels.ensures.values) c.requires
+
+pub returns-clause-ok : goal.returns-clause-ok
+returns-clause-ok c =
+    subst (λ (values : List ValType). IsValue c.value_number.new.self c.in_ok-number.number (type_of values c.args.layer.now)) c.keep_labels.ensures.values c.in_ok-number.ensures.ok
 
 pub returns-clause-grows : goal.returns-clause-grows
-returns-clause-grows c =
-    let t : Table = record { texts = c.self.inside.names; values = c.self.inside.values; layers = c.self.inside.layers; funcs = c.self.inside.funcs.items; instances = c.self.inside.instances.items } in
-    rw (← c.self.view_is) (values_grow t c.number_of.new.self (type_of c.self.inside.values c.args.layer.now) c.in_ok-number_of.field-0 c.in_ok-number_of.ensures.ok)
+returns-clause-grows c = grows_trans c.args.self.now c.keep_labels.new.self c.value_number.new.self c.keep_labels.ensures.grows c.value_number.ensures.grows
