@@ -3,3 +3,4 @@ mod EndsTold
 mod GraphsTyped
 mod Lending
 mod ScriptsFor
+mod ReadRuns

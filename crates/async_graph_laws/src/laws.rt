@@ -1,9 +1,14 @@
 //! What the laws of asynchronous calls ask of a graph holds of every linked one.
 
 ghost use Rattle.async_graph_laws.specs.Laws.{LinkedDefinitionsAreApart, LinkedGraphsAreTyped, ReadGraphsAreTyped, LinkedGraphsAreUsed, LinkedGraphsTellEnds, LinkedGraphsPassNoBorrow, CallsAreForGraphs, ReadScriptsAreForGraphs};
+ghost use Rattle.async_graph_laws.specs.ReadRuns.{ReadRunsAreRunnable, ReadRunsHaveOneNext, NoReadRunIsStuck, ReadRunsAreOne};
 
-use graph_laws::laws::read_modules_are_typed;
+use graph_laws::laws::{
+    read_data_are_bytes, read_modules_are_typed, read_scripts_pass_in_range,
+    read_types_are_labelled,
+};
 use link_spec::laws::graphs_are_sound;
+use reach_laws::{exactly_one_next, one_run_comes, scripts_pass_typed};
 use script_reader::scripts_call_exports;
 
 /// In a linked graph what a core instance imports, the core function of a lift, a destructor, and what the options of canonical definitions give,
@@ -47,4 +52,31 @@ pub fn linked_graphs_pass_no_borrow()
     ensures { LinkedGraphsPassNoBorrow }
 {
     graphs_are_sound();
+}
+
+/// The graph to which a component file is read and linked, and a script that is read for what it exports, are what the laws of reached worlds ask
+/// for: so each of these laws holds of every file and every text that is read so.
+pub fn read_runs_are_runnable()
+    ensures { ReadRunsAreRunnable }
+{
+    linked_definitions_are_apart();
+    linked_graphs_are_typed();
+    graphs_are_sound();
+    read_data_are_bytes();
+    scripts_are_for_graphs();
+    read_types_are_labelled();
+    read_scripts_pass_in_range();
+    scripts_pass_typed();
+}
+
+/// Of each component file that is read and linked, and each script that is read for it: in each world that the machine reaches a step or the end of
+/// the run comes next, and one alone. So no world is stuck, and there is exactly one run, with its lines, its last world and its end.
+pub fn read_runs_have_one_next()
+    ensures one { ReadRunsHaveOneNext }
+    ensures goes_on { NoReadRunIsStuck }
+    ensures run { ReadRunsAreOne }
+{
+    read_runs_are_runnable();
+    exactly_one_next();
+    one_run_comes();
 }

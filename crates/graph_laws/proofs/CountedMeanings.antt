@@ -1,6 +1,6 @@
 -- What a type means is marked, with ends or without, with labels that are many or counted, where all types around it are, and all in
 -- it are written so.
-use Rattle.std.proofs.Common.{◌≡◌, ℕ, Bool, true, false, cond, List, [], ◌∷◌, ◌++◌, map, sym, ◌∙◌, subst, Option, Some, None}
+use Rattle.std.proofs.Common.{◌≡◌, ℕ, Bool, true, false, cond, List, [], ◌∷◌, ◌++◌, ◌+◌, map, sym, ◌∙◌, subst, Option, Some, None}
 use Rattle.std.specs.Prelude.{IfSome}
 use Rattle.std.specs.Option.{option_map}
 use Rattle.std.specs.List.{slice_get, AllByRecursion}
@@ -12,18 +12,20 @@ use Rattle.comp_tree.specs.declared.instances.Sort.TheVariants as sorts
 use Rattle.comp_tree.specs.declared.instances.AliasTarget.{AliasTarget}
 use Rattle.comp_tree.specs.declared.instances.AliasTarget.TheVariants as target
 use Rattle.comp_tree.specs.declared.externs.ExternDesc.{ExternDesc}
-use Rattle.comp_tree.specs.declared.externs.ExternDesc.TheVariants as desc
 use Rattle.comp_tree.specs.declared.types.DefType.{DefType, roll-DefType}
 use Rattle.comp_tree.specs.declared.types.InstanceDecl.{InstanceDecl}
 use Rattle.comp_tree.specs.declared.types.DefType.TheViews.{roll-InstanceDecl}
 use Rattle.comp_tree.specs.declared.types.DefType.TheOpen.{DefType-F, InstanceDecl-F}
 use Rattle.comp_tree.specs.declared.types.DefType.TheFolds.{fold-DefType, fold-InstanceDecl, fold-roll-DefType, fold-roll-InstanceDecl, ind-DefType, map-DefType, map-InstanceDecl}
 use Rattle.comp_graph.specs.Closed.{Closed, Instance, Extern, OfFunc, OfType, OfInstance, Externs, extern_named}
+use Rattle.link_values.specs.Resources.{further_in}
+use Rattle.link_spec.specs.Brought.{moved}
 use Rattle.link_spec.specs.Definitions.{Closure}
 use Rattle.link_spec.specs.Spaces.{Level}
-use Rattle.link_spec.specs.Types.{Meaning, absent, desc_meaning, Declared, nothing_declared, own_level, type_in, instance_in, with_declared, kept_if, told, of_sort, of_export, from_instance, outer_type, outer_component, with_component, with_type, with_outer, declared_as, with_alias, extended, under_name, with_export, declared_by, instance_meaning, InLevels, types_around, type_step, decl_step, meaning_of}
+use Rattle.link_spec.specs.Types.{Meaning, absent, Declared, nothing_declared, own_level, type_in, instance_in, with_declared, kept_if, told, of_sort, of_export, from_instance, outer_type, outer_component, with_component, with_type, with_outer, declared_as, with_alias, sort_of, described, brings, extended, under_name, with_export, declared_by, instance_meaning, InLevels, types_around, type_step, decl_step, meaning_of}
 use Rattle.link_spec.proofs.Holding.{all_push, all_at, if_mapped}
-use Rattle.graph_laws.proofs.CountedTypes.{IsCounted, IsExternCounted, AreCounted, IsKnownCounted, AreKnownCounted, value_meaning_counted, func_meaning_counted, found_counted, desc_counted, named_counted}
+use Rattle.graph_laws.proofs.CountedTypes.{IsCounted, IsExternCounted, AreCounted, IsKnownCounted, AreKnownCounted, value_meaning_counted, func_meaning_counted, found_counted, named_counted}
+use Rattle.graph_laws.proofs.CountedMoved.{type_moved, described_counted}
 use Rattle.graph_laws.proofs.TypesStand.{few_step, few_decl_step, has_few}
 
 module _ (ends many : Bool) where
@@ -75,14 +77,15 @@ module _ (ends many : Bool) where
   component_counted d c h = told_counted (record d { components = d.components ++ c.means ∷ [] }) c (record { types = h.types; instances = h.instances; so_far = h.so_far })
 
   -- Aliases.
-  outer_type_counted : (index : ℕ) (o : Option Level) → IfSome o IsLevelCounted → IfSome (outer_type index o).means (IsCounted ends many)
-  outer_type_counted index None h = tt
-  outer_type_counted index (Some level) h = found_counted ends many (λ type. Some type) (IsCounted ends many) (IsCounted ends many) (λ type k. k) (slice_get level.types index) (all_at (IsKnownCounted ends many) level.types index h)
+  outer_type_counted : (up index : ℕ) (o : Option Level) → IfSome o IsLevelCounted → IfSome (outer_type up index o).means (IsCounted ends many)
+  outer_type_counted up index None h = tt
+  outer_type_counted up index (Some level) h =
+      found_counted ends many (λ type. Some (moved (further_in up) 0 type)) (IsCounted ends many) (IsCounted ends many) (λ type k. type_moved ends many (further_in up) 0 type k) (slice_get level.types index) (all_at (IsKnownCounted ends many) level.types index h)
 
   outer_counted : (d : Declared) (levels : List Level) (sort : Sort) (up index : ℕ) → AreLevelsCounted levels → IsDeclaredCounted d → IsDeclaredCounted (with_outer d levels sort up index)
   outer_counted d levels sorts.Component up index k h = component_counted d (outer_component index (slice_get levels up)) h
   outer_counted d levels sorts.Func up index k h = as_counted d sorts.Func absent h tt
-  outer_counted d levels sorts.Type up index k h = type_counted d (outer_type index (slice_get levels up)) h (outer_type_counted index (slice_get levels up) (all_at IsLevelCounted levels up k))
+  outer_counted d levels sorts.Type up index k h = type_counted d (outer_type up index (slice_get levels up)) h (outer_type_counted up index (slice_get levels up) (all_at IsLevelCounted levels up k))
   outer_counted d levels sorts.Instance up index k h = as_counted d sorts.Instance absent h tt
   outer_counted d levels (sorts.Core sort) up index k h = as_counted d (sorts.Core sort) absent h tt
 
@@ -122,23 +125,16 @@ module _ (ends many : Bool) where
     so_far = extended_counted name extern before (is_among name d.names) k told;
   }
 
+  brought_counted : (d : Declared) (resources : ℕ) → IsDeclaredCounted d → IsDeclaredCounted (record d { resources = resources })
+  brought_counted d resources h = record { types = h.types; instances = h.instances; so_far = h.so_far }
+
   with_export_counted : (d : Declared) (name : List ℕ) (asked : ExternDesc) → IsDeclaredCounted d → IsDeclaredCounted (with_export d name asked)
-  with_export_counted d name (desc.Func index) h =
-      let extern = desc_meaning d.types (desc.Func index) in
-      let k = desc_counted ends many d.types (desc.Func index) h.types in
-      under_counted (declared_as d sorts.Func extern) d.so_far.means name extern.means (as_counted d sorts.Func extern h k) h.so_far k
-  with_export_counted d name (desc.TypeEq index) h =
-      let extern = desc_meaning d.types (desc.TypeEq index) in
-      let k = desc_counted ends many d.types (desc.TypeEq index) h.types in
-      under_counted (declared_as d sorts.Type extern) d.so_far.means name extern.means (as_counted d sorts.Type extern h k) h.so_far k
-  with_export_counted d name (desc.Instance index) h =
-      let extern = desc_meaning d.types (desc.Instance index) in
-      let k = desc_counted ends many d.types (desc.Instance index) h.types in
-      under_counted (declared_as d sorts.Instance extern) d.so_far.means name extern.means (as_counted d sorts.Instance extern h k) h.so_far k
-  with_export_counted d name desc.Resource h =
-      let extern = desc_meaning d.types desc.Resource in
-      let k = desc_counted ends many d.types desc.Resource h.types in
-      under_counted (declared_as d sorts.Type extern) d.so_far.means name extern.means (as_counted d sorts.Type extern h k) h.so_far k
+  with_export_counted d name asked h =
+      let extern = described d asked in
+      let k = described_counted ends many d asked h.types in
+      let declared = declared_as d (sort_of asked) extern in
+      under_counted (record declared { resources = d.resources + brings d asked }) d.so_far.means name extern.means
+      (brought_counted declared (d.resources + brings d asked) (as_counted d (sort_of asked) extern h k)) h.so_far k
 
   -- By induction on types and declarations.
   around_counted : (levels : List Level) → AreLevelsCounted levels → AllByRecursion (IsKnownCounted ends many) (types_around levels)

@@ -54,10 +54,10 @@ signed : (w : Width) (most : ℕ) (n : ℤ) → ((m : ℕ) → m ≤ most → Fi
 signed w most (pos n) f g h = f n (leb-true n most h)
 signed w most (negsuc n) f g h = g n (leb-true n most h)
 
-scalar : (c : ℕ) → all_scalars (c ∷ []) ≡ true → is_scalar c ≡ true
+pub scalar : (c : ℕ) → all_scalars (c ∷ []) ≡ true → is_scalar c ≡ true
 scalar c h = let first = (and_parts _ true h).0 in grind (arith, nat_tests)
 
-bits_small : (n : ℕ) (flags : List Bool) → length flags ≤ n → bits_of flags < 2 ^ n
+pub bits_small : (n : ℕ) (flags : List Bool) → length flags ≤ n → bits_of flags < 2 ^ n
 bits_small zero [] few = omega arith
 bits_small zero (flag ∷ flags) few = absurd (omega (arith, few))
 bits_small (suc n) [] few = let small = bits_small n [] (omega arith) in omega (arith, small)

@@ -43,6 +43,7 @@ use Rattle.link_spec.specs.Resources.{resource_written, with_resource, resource_
 use Rattle.link_spec.specs.Canons.{given_by}
 use Rattle.link_spec.specs.Types.{Meaning}
 use Rattle.link_spec.specs.Builtins.{builtin_meaning}
+use Rattle.link_spec.specs.Brought.{asked_of}
 use Rattle.link_spec.specs.Items.{argument_named, import_found, FindsItem, IsInline, core_made, core_instance_makes, instance_makes, alias_makes, lifted_with, lift_makes, with_canon, lowered_with, lower_makes, builtin_makes, IsImported, import_makes, said, IsExported, export_makes, type_meaning, defined_makes, makes_case}
 use Rattle.link_spec.proofs.Holding.{all_push, all_mapped, all_flat, all_at, all_second, holds_at, if_mapped, if_found, if_each, if_cond, last_there}
 use Rattle.canonical_machine.specs.Reading.{inst_of_canon}
@@ -252,7 +253,7 @@ type_reached l n s None type new h k (closed, means, made) =
 -- Imports and exports.
 imported_apart : (g : Graph) (arguments : Option Exports) (name : List ℕ) (extern : Extern) (d : Definition) → IfSome arguments (AreDefinedApart g) → IsImported arguments name extern d → IsDefinedApart g d
 imported_apart g (Some given) name extern d h (x, is, fits, e) =
-    subst (IsDefinedApart g) (sym e) (seen_apart g x extern (holds_at (IsDefinedApart g) (export_named name given) x (named_apart g name given h) is))
+    subst (IsDefinedApart g) (sym e) (seen_apart g x (asked_of x extern) (holds_at (IsDefinedApart g) (export_named name given) x (named_apart g name given h) is))
 imported_apart g None name (OfInstance externs) d h (types, e) = subst (IsDefinedApart g) (sym e) (types_apart g externs)
 imported_apart g None name (OfFunc type) d h i = absurd i
 imported_apart g None name (OfType type) d h i = absurd i
@@ -264,7 +265,7 @@ import_reached l n s name asked new h k (extern, d, means, fresh, imported, made
 
 exported_apart : (g : Graph) (meaning : Option (Meaning Extern)) (d x : Definition) → IsDefinedApart g d → IsExported meaning d x → IsDefinedApart g x
 exported_apart g None d x h e = subst (IsDefinedApart g) (sym e) h
-exported_apart g (Some meaning) d x h (extern, means, fits, e) = subst (IsDefinedApart g) (sym e) (seen_apart g d extern h)
+exported_apart g (Some meaning) d x h (extern, means, fits, e) = subst (IsDefinedApart g) (sym e) (seen_apart g d (asked_of d extern) h)
 
 export_reached : (l : Linking) (n : ℕ) (s : Spaces) (e : read.Export) (new : Linking) → IsLinkingApart l → AreSpacesApart (made_by l) n s → export_makes l n s e new → IsReachedApart l new
 export_reached l n s e new h k (d, x, is, fresh, exported, made) =

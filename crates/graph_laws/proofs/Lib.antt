@@ -15,7 +15,9 @@ mod Counting
 mod Marked
 mod Unended
 pub mod SoundCalls
+mod ScriptsInRange
 mod TypesStand
+mod CountedMoved
 mod CountedTypes
 mod CountedMeanings
 mod SpacesHold

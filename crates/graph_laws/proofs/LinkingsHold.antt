@@ -34,6 +34,7 @@ use Rattle.link_spec.specs.Spaces.{Spaces, Linking, new_spaces, levels_at, defin
 use Rattle.link_spec.specs.Ends.{noted_type}
 use Rattle.link_spec.specs.Canons.{given_by}
 use Rattle.link_spec.specs.Builtins.{builtin_meaning}
+use Rattle.link_spec.specs.Brought.{asked_of}
 use Rattle.link_spec.specs.Resources.{resource_written, with_resource, resource_makes}
 use Rattle.link_spec.specs.Types.{Meaning, meaning_of}
 use Rattle.link_spec.specs.Items.{core_instance_makes, instance_makes, alias_makes, StandsFor, lifted_with, lift_makes, with_canon, lowered_with, lower_makes, builtin_makes, wanted, IsImported, import_makes, said, IsExported, export_makes, type_meaning, defined_makes, makes_case}
@@ -119,7 +120,7 @@ module _ (K : Known) where
   -- Exports.
   exported_held : (meaning : Option (Meaning Extern)) (d x : Definition) → IsDefined K d → IsExported meaning d x → IsDefined K x
   exported_held None d x h e = subst (IsDefined K) (sym e) h
-  exported_held (Some meaning) d x h (extern, means, fits, e) = subst (IsDefined K) (sym e) (seen_held K d extern h)
+  exported_held (Some meaning) d x h (extern, means, fits, e) = subst (IsDefined K) (sym e) (seen_held K d (asked_of d extern) h)
 
   export_made : (l : Linking) (n : ℕ) (s : Spaces) (e : read.Export) (new : Linking) → IsLinking K l → AreSpaces K s → export_makes l n s e new → IsLinking K new
   export_made l n s e new h k (d, x, is, fresh, exported, made) =
@@ -186,7 +187,7 @@ module _ (K : Known) (S : Item-F Item Component → Type 0) (are : AreSteps K S)
   -- Imports.
   imported_held : (s : Spaces) (name : List ℕ) (asked : ExternDesc) (extern : Extern) (arguments : Option Exports) (d : Definition)
       → AreSpaces K s → IfSome arguments (AreDefined K) → (wanted s name asked).means ≡ Some extern → IsImported arguments name extern d → IsDefined K d
-  imported_held s name asked extern (Some given) d k h means (x, is, fits, e) = subst (IsDefined K) (sym e) (seen_held K x extern (holds_at (IsDefined K) (export_named name given) x (export_held K name given h) is))
+  imported_held s name asked extern (Some given) d k h means (x, is, fits, e) = subst (IsDefined K) (sym e) (seen_held K x (asked_of x extern) (holds_at (IsDefined K) (export_named name given) x (export_held K name given h) is))
   imported_held s name asked (OfInstance externs) None d k h means (types, e) = subst (IsDefined K) (sym e) (are.asked s name asked externs k means)
   imported_held s name asked (OfFunc type) None d k h means i = absurd i
   imported_held s name asked (OfType type) None d k h means i = absurd i

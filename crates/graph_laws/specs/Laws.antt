@@ -1,6 +1,8 @@
 -- What the graph of a component has, where it is linked (Component Model, Explainer.md, "Instance Definitions" and "Canonical
 -- Definitions"), and what its modules have, where it was read before (Binary.md, "Core Definitions"; Core 2.0, section 5.5).
-use Rattle.std.specs.Prelude.{◌≡◌, ℕ, true, List}
+use Rattle.std.specs.Prelude.{◌≡◌, ℕ, true, List, Some}
+use Rattle.std.specs.List.{slice_get, AllByRecursion}
+use Rattle.ca_types.specs.declared.exports.Export.{Export}
 use Rattle.wasm_module.specs.declared.module.ModuleTree.{ModuleTree}
 use Rattle.wasm_typing.specs.Modules.{Typed}
 use Rattle.wasm_store.specs.Instantiation.{InRange}
@@ -9,13 +11,16 @@ use Rattle.comp_reader.specs.Binary.{IsComponent}
 use Rattle.comp_graph.specs.Graph.{Graph}
 use Rattle.comp_graph.specs.Running.{runs_now}
 use Rattle.sync_items.specs.Graphs.{is_plain}
-use Rattle.script_reader.specs.Script.{Script, AreItems}
+use Rattle.script_reader.specs.declared.script.Call.{Call}
+use Rattle.script_reader.specs.declared.script.Item.TheVariants as item
+use Rattle.script_reader.specs.Script.{Script, IsScript, AreItems}
 use Rattle.link_spec.specs.Standing.{StandsIn}
 use Rattle.link_spec.specs.Linked.{IsLinked}
 use Rattle.canonical_machine.specs.Sound.{AreBytes, HasBytes, Makes, IsSoundGraph, IsSound}
 use Rattle.canonical_machine.specs.Owners.{IsApart}
 use Rattle.canonical_machine.specs.Plain.{IsPlain}
-use Rattle.graph_laws.specs.Counted.{HasCountedFuncs, HasLabelledFuncs}
+use Rattle.canonical_machine.specs.Values.{AllInRange}
+use Rattle.graph_laws.specs.Counted.{HasCountedFuncs, HasLabelledTypes, HasLabelledFuncs}
 use Rattle.graph_laws.specs.Scripts.{only_calls}
 
 -- A module that is valid, no memory of which begins with more pages than any may have, and whose data are bytes.
@@ -78,3 +83,10 @@ abbrev pub CallsAreSound : Type 0
 CallsAreSound =
     (g : Graph) (s : Script)
     → IsSoundGraph g → HasCountedFuncs g → AreItems g.exports 0 s.items → only_calls s ≡ true → IsSound g s
+
+-- Each call of a script that is read for exports whose types have counted labels passes values in their ranges.
+abbrev pub ReadScriptsPassInRange : Type 0
+ReadScriptsPassInRange =
+    (exports : List Export) (text : List ℕ) (s : Script) (n : ℕ) (call : Call)
+    → AllByRecursion (λ (e : Export). HasLabelledTypes e.func_type) exports → IsScript exports text s → slice_get s.items n ≡ Some (item.Call call)
+    → AllInRange call.values

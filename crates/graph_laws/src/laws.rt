@@ -1,9 +1,10 @@
 //! What holds of every linked graph, and of the modules that are read.
 
 ghost use Rattle.canonical_machine.specs.Sound.{AreBytes};
-ghost use Rattle.graph_laws.specs.Laws.{LinkedGraphsAreSound, PlansMakeInOrder, LinkedGraphsAreApart, ReadModulesAreTyped, ReadDataAreBytes, ReadModulesAreSound, ReadGraphsAreSound, ReadTypesAreLabelled, ReadTypesAreCounted, CountedGraphsArePlain, CallsAreSound};
+ghost use Rattle.graph_laws.specs.Laws.{LinkedGraphsAreSound, PlansMakeInOrder, LinkedGraphsAreApart, ReadModulesAreTyped, ReadDataAreBytes, ReadModulesAreSound, ReadGraphsAreSound, ReadTypesAreLabelled, ReadTypesAreCounted, CountedGraphsArePlain, CallsAreSound, ReadScriptsPassInRange};
 
 use link_spec::laws::graphs_are_sound;
+use script_reader::scripts_are_texts;
 
 /// The graph of a component whose modules are typed, in range and of bytes is sound, if all its functions are synchronous. The plan of
 /// every linked graph makes its core instances, each once, in order.
@@ -67,3 +68,11 @@ pub fn counted_graphs_are_plain()
 pub fn calls_are_sound()
     ensures { CallsAreSound }
 {}
+
+/// Each call of a script that is read for exports whose types have counted labels passes values in their ranges: numbers within their
+/// widths, Unicode scalar values, texts that are UTF-8, flags of 32 bits, and cases with numbers below 2^32.
+pub fn read_scripts_pass_in_range()
+    ensures { ReadScriptsPassInRange }
+{
+    scripts_are_texts();
+}

@@ -9,7 +9,8 @@
 //! Of a script they ask that its values are of the types that they are passed for. `specs/Counted` says which types a function of such a
 //! graph passes, where none passes a handle or an end: the labels of flags, variants and enums are counted, and there is no handle and no
 //! end. So a script that is read for the exports of such a graph and makes calls alone (`specs/Scripts`) is sound, and the graph passes
-//! no handle and no end.
+//! no handle and no end. Where types may hold handles and ends, labels are counted as well, and what the calls of a script pass that is read for such
+//! exports is in its ranges.
 //!
 //! - `laws`: what holds of every linked graph, and of the modules that are read
 //! - `scripts`: which scripts the machine of synchronous calls runs

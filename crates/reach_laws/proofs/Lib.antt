@@ -8,3 +8,5 @@ mod Feeding
 mod Reaching
 mod Told
 mod ScriptsRead
+mod free
+mod OneRun

@@ -16,9 +16,8 @@ use Rattle.abi_machine.specs.sound.Starting.{IsDoomed}
 use Rattle.abi_machine.specs.sound.TypedStacks.{IsTyped}
 use Rattle.abi_machine.specs.sound.TypedWorlds.{PutsInside, IsTypedWorld}
 use Rattle.abi_machine.proofs.sound.places.Given.{places_go_on}
-use Rattle.abi_machine.proofs.sound.RunsEnd.{runs_end_so}
 use Rattle.abi_machine.proofs.sound.worlds.Feeding.{typed_worlds_feed}
-use Rattle.reach_laws.specs.Going.{IsStep, IsEnd, ExactlyOneNext, NoneIsStuck, RunsAreThere}
+use Rattle.reach_laws.specs.Going.{IsStep, IsEnd, ExactlyOneNext, NoneIsStuck}
 use Rattle.reach_laws.specs.Reached.{StartsTyped, ReachedAreTyped, CodePassesWords, ReachedKeepWords, StoresExtend, ReachedStandInside, ReachedAnswerWords, ReachedPutInside}
 use Rattle.reach_laws.specs.Runnable.{IsRunnable}
 use Rattle.reach_laws.proofs.Feeding.{in_range}
@@ -91,6 +90,3 @@ not_both turn step end = (let clash : Steps step.0 step.1 ≡ Ends end.0 = sym s
 
 pub exactly_one_next : ExactlyOneNext
 exactly_one_next g s steps w run r = record { comes = comes_of (next g s w) (none_is_stuck g s run steps w r); not_both = not_both (next g s w) }
-
-pub runs_are_there : RunsAreThere
-runs_are_there g s run free = runs_end_so g s (none_is_stuck g s run) free

@@ -1,5 +1,5 @@
 -- Exactly one next (Component Model, Concurrency.md, "Summary"): in each world that a run reaches either a step comes next, one alone, or the run has
--- ended. So a script has a run where steps that cost nothing come to an end.
+-- ended. Steps that cost nothing come to an end, whatever the graph and the script. So a graph and a script that fit have exactly one run.
 use Rattle.std.specs.Prelude.{◌≡◌, ◌⊎◌, List}
 use Rattle.comp_graph.specs.Graph.{Graph}
 use Rattle.script_reader.specs.Script.{Script}
@@ -8,8 +8,8 @@ use Rattle.abi_machine.specs.declared.run_end.RunEnd.{RunEnd}
 use Rattle.abi_machine.specs.World.{World, first_world}
 use Rattle.abi_machine.specs.Turn.{Turn, Steps, Ends}
 use Rattle.abi_machine.specs.Next.{next}
-use Rattle.abi_machine.specs.Run.{Reaches}
-use Rattle.abi_machine.specs.sound.RunsEnd.{FreeStepsEnd, GoesOnEverywhere, HasRun}
+use Rattle.abi_machine.specs.Run.{Reaches, Runs}
+use Rattle.abi_machine.specs.sound.RunsEnd.{FreeStepsEnd, GoesOnEverywhere}
 use Rattle.reach_laws.specs.Runnable.{IsRunnable}
 
 -- a step with its lines and the world behind it, and the end of the run
@@ -31,5 +31,17 @@ ExactlyOneNext =
 abbrev pub NoneIsStuck : Type 0
 NoneIsStuck = (g : Graph) (s : Script) → IsRunnable g s → GoesOnEverywhere g s
 
-abbrev pub RunsAreThere : Type 0
-RunsAreThere = (g : Graph) (s : Script) → IsRunnable g s → FreeStepsEnd g s → HasRun g s
+-- This asks nothing of the graph and the script.
+abbrev pub FreeStepsComeToEnd : Type 0
+FreeStepsComeToEnd = (g : Graph) (s : Script) → FreeStepsEnd g s
+
+-- a run, which each one is
+pub record HasOneRun (g : Graph) (s : Script) : Type 0 where
+  pub labels : List Label
+  pub last : World
+  pub end : RunEnd
+  pub runs : Runs g s labels last end
+  pub only : (others : List Label) (other : World) (other_end : RunEnd) → Runs g s others other other_end → (others ≡ labels) × (other ≡ last) × (other_end ≡ end)
+
+abbrev pub OneRunComes : Type 0
+OneRunComes = (g : Graph) (s : Script) → IsRunnable g s → HasOneRun g s

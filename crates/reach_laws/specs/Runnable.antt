@@ -1,6 +1,6 @@
--- What a component that is read and linked gives of its graph, and reading of a script for it, but for the ranges of its values, which no law gives yet (Component Model, Explainer.md, "Instance Definitions" and "Canonical Definitions";
--- Concurrency.md, "Summary"): core definitions stay in their component instance, modules are valid and their data are bytes, what lifts, lowers and
--- built-ins use is there, and calls name exports and pass values of the types of their parameters.
+-- What a component that is read and linked gives of its graph, and reading of a script for it (Component Model, Explainer.md, "Instance Definitions" and
+-- "Canonical Definitions"; Concurrency.md, "Summary"): core definitions stay in their component instance, modules are valid and their data are bytes, what
+-- lifts, lowers and built-ins use is there, and calls name exports and pass values of the types of their parameters.
 use Rattle.std.specs.Prelude.{◌≡◌, ℕ, Some}
 use Rattle.std.specs.List.{slice_get, AllByRecursion}
 use Rattle.comp_graph.specs.Graph.{Graph}

@@ -1,6 +1,11 @@
 //! What holds of each world that a run reaches.
 
-ghost use Rattle.reach_laws.specs.Going.{ExactlyOneNext, NoneIsStuck, RunsAreThere};
+ghost use Rattle.reach_laws.specs.Going.{
+  ExactlyOneNext,
+  FreeStepsComeToEnd,
+  NoneIsStuck,
+  OneRunComes,
+};
 ghost use Rattle.reach_laws.specs.Reached.{
   CodePassesWords,
   ReachedAnswerWords,
@@ -49,10 +54,18 @@ pub fn steps_are_fed()
     ensures puts { ReachedPutInside }
 {}
 
-/// In each world that a run of such a graph and script reaches a step or the end of the run comes next, and one alone: so no world is stuck. A script has a run, where from each world that
-/// is reached finitely many steps lead to one behind which no step comes that costs nothing.
+/// In each world that a run of such a graph and script reaches a step or the end of the run comes next, and one alone: so no world is stuck.
 pub fn exactly_one_next()
     ensures one { ExactlyOneNext }
     ensures goes_on { NoneIsStuck }
-    ensures runs { RunsAreThere }
+{}
+
+/// Whatever the graph and the script, from each world that a run reaches finitely many steps lead to one behind which no step comes that costs nothing.
+pub fn free_steps_end()
+    ensures { FreeStepsComeToEnd }
+{}
+
+/// A graph and a script that fit have exactly one run.
+pub fn one_run_comes()
+    ensures { OneRunComes }
 {}

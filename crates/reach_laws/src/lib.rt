@@ -3,8 +3,9 @@
 //!
 //! `abi_machine` says what a world is and what comes next, and its laws what a step keeps, each under premises on the world. `specs/Runnable` names
 //! what is asked of a graph, which linking gives, and of a script for it; from this alone `specs/Reached` has that every world which a run reaches is
-//! typed, and that the premises hold in it, and `specs/Going` that either one step comes next there, or the run has ended. `specs/ReadScripts` has
-//! what holds of the arguments in a script that is read.
+//! typed, and that the premises hold in it, and `specs/Going` that either one step comes next there, or the run has ended, so that there is exactly one
+//! run: steps that cost nothing come to an end, whatever the graph and the script. `specs/ReadScripts` has what holds of the arguments in a script that
+//! is read.
 //!
 //! - `laws`: the laws
 #![tactic(auto)]
@@ -12,6 +13,6 @@
 mod laws;
 
 pub use laws::{
-    exactly_one_next, reached_worlds_are_typed, read_scripts_pass_no_handles, scripts_pass_typed,
-    steps_are_fed,
+    exactly_one_next, free_steps_end, one_run_comes, reached_worlds_are_typed,
+    read_scripts_pass_no_handles, scripts_pass_typed, steps_are_fed,
 };

@@ -1,0 +1,10 @@
+pub mod Steps
+pub mod Stacks
+pub mod Targets
+pub mod Nested
+pub mod Scheduling
+pub mod Returning
+pub mod Events
+pub mod Answers
+pub mod Calls
+pub mod Ending
