@@ -79,7 +79,7 @@ counts_one i number (suc n) (x ∷ tasks) task e here at =
     subst (λ (l : List Stay). 1 ≤ count_by waits l) (sym (front_is i number x tasks))
     (one_more (runs_in i x) _ (stays_from i (number + 1) tasks) (counts_one i (number + 1) n tasks task e here at))
 
-wait_is_counted : (h : Held) (w : World) (callee : ℕ) (task : Task) (f : Lifted) → slice_get w.tasks callee ≡ Some task → func_of task.callee ≡ Some f → KeepsGate h w f.instance
+pub wait_is_counted : (h : Held) (w : World) (callee : ℕ) (task : Task) (f : Lifted) → slice_get w.tasks callee ≡ Some task → func_of task.callee ≡ Some f → KeepsGate h w f.instance
     → WaitIsCounted h f.instance task
 wait_is_counted h w callee task f there runs keeps waits_so i at =
     let here : runs_in f.instance task ≡ true = ap (is_in f.instance) runs ∙ eq-eqb f.instance f.instance refl in

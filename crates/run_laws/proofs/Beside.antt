@@ -39,7 +39,7 @@ use Rattle.run_laws.specs.Answering.{CallsOwn, IsOther, IsSoundAt, IsBeside}
 use Rattle.run_laws.specs.KeptMarks.{CalledIn, SetsApart, CallsAreIn, IsBesideMarks, MarksSupply}
 
 -- What stands in a list counts in its sum.
-at_most : {A : Type 0} (f : A → ℕ) (xs : List A) (n : ℕ) (x : A) → slice_get xs n ≡ Some x → f x ≤ sum_by f xs
+pub at_most : {A : Type 0} (f : A → ℕ) (xs : List A) (n : ℕ) (x : A) → slice_get xs n ≡ Some x → f x ≤ sum_by f xs
 at_most f [] n x e = absurd (cc)
 at_most f (y ∷ xs) zero x e =
     let a : sum_by f (y ∷ xs) ≡ f y + sum_by f xs = sum_by-cons f y xs in

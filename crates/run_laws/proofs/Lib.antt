@@ -52,3 +52,14 @@ pub mod PassedFlows
 pub mod chains
 pub mod OverLeads
 pub mod Steps
+mod AbleAlone
+pub mod AbleTasks
+pub mod AbleLists
+pub mod CancelTaken
+mod NamedCalls
+pub mod keeping
+pub mod Whole
+pub mod lists
+pub mod supplied
+pub mod silent
+pub mod well

@@ -44,17 +44,17 @@ callers_run_there g s steps w apart reached t task subtask there guest =
     (by.0, by.1, ap is_some by.2.1)
 
 -- Once all is instantiated no task is in a start function.
-instantiated_is : (tasks : List Task) (init : Task) → slice_get tasks 0 ≡ Some init → is_instantiated tasks ≡ has_exited init.state
+pub instantiated_is : (tasks : List Task) (init : Task) → slice_get tasks 0 ≡ Some init → is_instantiated tasks ≡ has_exited init.state
 instantiated_is [] init e = absurd (cc)
 instantiated_is (x ∷ tasks) init e = ap (λ (y : Task). has_exited y.state) (some_same e)
 
-none_begins : (w : World) (t : ℕ) (task : Task) (n : ℕ) → InitRunsAlone w.tasks w.chain → may_leave w ≡ true → slice_get w.tasks t ≡ Some task → task.state ≡ Begins n → ⊥
+pub none_begins : (w : World) (t : ℕ) (task : Task) (n : ℕ) → InitRunsAlone w.tasks w.chain → may_leave w ≡ true → slice_get w.tasks t ≡ Some task → task.state ≡ Begins n → ⊥
 none_begins w zero task n alone free there e =
     let same : has_exited (Begins n) ≡ true = ap has_exited (sym e) ∙ sym (instantiated_is w.tasks task there) ∙ free in
     absurd (cc)
 none_begins w (suc t) task n alone free there e = subst StartsNothing e (alone.others t task there)
 
-runs_so : (state : TaskState) (callee : Callee) → ((n : ℕ) → state ≡ Begins n → ⊥) → RunsIn state callee → (state ≡ Acting) × IsSome (func_of callee)
+pub runs_so : (state : TaskState) (callee : Callee) → ((n : ℕ) → state ≡ Begins n → ⊥) → RunsIn state callee → (state ≡ Acting) × IsSome (func_of callee)
 runs_so Acting callee none h = (refl, h)
 runs_so (Begins n) callee none h = absurd (none n refl)
 runs_so New callee none h = absurd h
@@ -65,12 +65,12 @@ runs_so (InLoop word) callee none h = absurd h
 runs_so (InBuiltin number words wait) callee none h = absurd h
 runs_so Exited callee none h = absurd h
 
-outline_at : (tasks : List Task) (t : ℕ) (task : Task) (o : Outline) → slice_get tasks t ≡ Some task → slice_get (outlines_of tasks) t ≡ Some o → o ≡ outline_of task
+pub outline_at : (tasks : List Task) (t : ℕ) (task : Task) (o : Outline) → slice_get tasks t ≡ Some task → slice_get (outlines_of tasks) t ≡ Some o → o ≡ outline_of task
 outline_at [] t task o there e = absurd (cc)
 outline_at (x ∷ tasks) zero task o there e = sym (some_same e) ∙ ap outline_of (some_same there)
 outline_at (x ∷ tasks) (suc t) task o there e = outline_at tasks t task o there e
 
-some_func : (o : Option Lifted) → IsSome o → (f : Lifted) × (o ≡ Some f)
+pub some_func : (o : Option Lifted) → IsSome o → (f : Lifted) × (o ≡ Some f)
 some_func None h = absurd (cc)
 some_func (Some f) h = (f, refl)
 

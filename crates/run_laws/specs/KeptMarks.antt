@@ -34,7 +34,7 @@ CalledIn h t (canon.Builtin b) = CallsIn h t b.instance
 abbrev pub AnswersKeepMarks : Type 0
 AnswersKeepMarks = (g : Graph) (types : List (Option ℕ)) (t number : ℕ) (c : CanonFunc) (words : List ℕ) (h : Held) → CalledIn h t c → StayBy h (canon_answered g types t number c words h)
 
--- No law gives yet that each set stands at one index of a table, and that no task waits where the next entry will stand.
+-- Each set stands at one index of a table, and no task waits where the next entry will stand.
 pub record SetsApart (h : Held) (at : ℕ) : Type 0 where
   pub once : (i : InstanceView) → slice_get h.instances at ≡ Some i → StandOnce i
   pub next : (i : InstanceView) → slice_get h.instances at ≡ Some i → waiters_at h.tasks at (next_of i.slots) ≡ 0

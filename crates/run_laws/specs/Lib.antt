@@ -1,6 +1,8 @@
 pub mod Points
 pub mod Dispatch
 pub mod Turns
+pub mod TaskLists
+pub mod Programs
 pub mod Runs
 pub mod Lowered
 pub mod Answering
@@ -19,3 +21,6 @@ pub mod AsyncEnds
 pub mod Destructors
 pub mod Passings
 pub mod Steps
+pub mod keeping
+pub mod Whole
+pub mod Supplied

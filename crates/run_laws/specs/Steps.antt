@@ -156,8 +156,8 @@ pub record MayMove (p : Program) (values : List ValType) (s : Script) (h : Held)
   pub hears : (what : Flow) (k : Held) (now : List (List Stack)) (v : World) → woken p.graph.now p.ends.now h.rest h ≡ Gives what k → Stands p.graph.now values s k now v
       → HearsBy p.graph.now k v number what
 
--- Where no task runs: that the same tasks can go on, and that a cancellation of the script agrees, are asked here, not proved. And where values are to be
--- passed, for the acting task of the world in the midst of the turn.
+-- Where no task runs: that the same tasks can go on, and that a cancellation of the script agrees. And where values are to be passed, for the acting task of
+-- the world in the midst of the turn.
 pub record MayTurn (p : Program) (values : List ValType) (s : Script) (h : Held) (piles : List PileView) (w : World) : Type 0 where
   pub named : IsProgram p.graph.now s p
   pub turns : TurnKept p.graph.now s h w

@@ -1,0 +1,88 @@
+-- Streams and futures: lists of tasks stay as they follow from the tasks.
+use Rattle.std.proofs.Common.{refl, Some}
+use Rattle.std.specs.Prelude.{ℕ, if◌then◌else◌, List, [], ◌∷◌, ◌++◌, slice_set, Option, Some, None}
+use Rattle.std.specs.List.{slice_get}
+use Rattle.builtin_kinds.specs.declared.EndKind.{EndKind}
+use Rattle.builtin_kinds.specs.declared.EndKind.TheVariants.{Stream, Future}
+use Rattle.stream_ends.specs.declared.side.Side.{Side}
+use Rattle.stream_ends.specs.declared.open_copy.By.{By}
+use Rattle.stream_ends.specs.Ends.{is_idle, is_copying}
+use Rattle.channels.specs.declared.channel.Channel.{Channel}
+use Rattle.channels.specs.Channels as channel
+use Rattle.channels.specs.Channels.{new_ends, end_in, may_offer, meet_in, is_due, payload_in, may_drop, with_ends}
+use Rattle.world_parts.specs.Held.{Held, Gives, Stuck}
+use Rattle.world_parts.specs.Channels.{answered, channel_at, channel_made, channels, concluded, concluded_at, copied, copied_at, end_dropped, end_dropped_at, end_seen, idle_seen, offered, offered_at, place_of, with_channel, with_channels}
+use Rattle.run_laws.proofs.lists.Same.{Same, ListsBy, lists_given, lists_if, lists_same, lists_all}
+
+-- Streams and futures are others.
+channels_stay : (kind : EndKind) (all : List Channel) (h : Held) → Same h (with_channels kind all h)
+channels_stay Stream all h = lists_all h (with_channels Stream all h) refl refl refl refl refl
+channels_stay Future all h = lists_all h (with_channels Future all h) refl refl refl refl refl
+
+pub channel_made_lists : (kind : EndKind) (type : ℕ) (h : Held) → ListsBy h (channel_made kind type h)
+channel_made_lists kind type h =
+    channels_stay kind (channels kind h ++ (record { end_type = type; ends = new_ends kind }) ∷ []) h
+
+answered_lists : {A : Type 0} (o : Option A) (kind : EndKind) (place : ℕ) (c : Channel) (h : Held) → ListsBy h (answered o kind place c h)
+answered_lists None kind place c h = tt
+answered_lists (Some x) kind place c h = channels_stay kind (slice_set (channels kind h) place c) h
+
+pub offered_at_lists : (kind : EndKind) (place : ℕ) (side : Side) (by : By) (canon address size : ℕ) (h : Held) → ListsBy h (offered_at kind place side by canon address size h)
+offered_at_lists kind place side by canon address size h =
+    lists_given h (slice_get (channels kind h) place)
+    (λ c.
+    answered (if may_offer side size c.ends then Some (meet_in side by canon address size c.ends) else None) kind place
+    (if may_offer side size c.ends then with_ends (channel.offered side by canon address size c.ends) c else c) h)
+    (λ c is.
+    answered_lists (if may_offer side size c.ends then Some (meet_in side by canon address size c.ends) else None) kind place
+    (if may_offer side size c.ends then with_ends (channel.offered side by canon address size c.ends) c else c) h)
+
+pub copied_at_lists : (kind : EndKind) (place count : ℕ) (h : Held) → ListsBy h (copied_at kind place count h)
+copied_at_lists kind place count h =
+    lists_given h (slice_get (channels kind h) place)
+    (λ c. if is_due count c.ends then Gives (tt {0}) (with_channel kind place (with_ends (channel.copied count c.ends) c) h) else Stuck)
+    (λ c is.
+    lists_if h (is_due count c.ends) (Gives (tt {0}) (with_channel kind place (with_ends (channel.copied count c.ends) c) h)) Stuck
+    (channels_stay kind (slice_set (channels kind h) place (with_ends (channel.copied count c.ends) c)) h) tt)
+
+pub concluded_at_lists : (kind : EndKind) (place : ℕ) (side : Side) (h : Held) → ListsBy h (concluded_at kind place side h)
+concluded_at_lists kind place side h =
+    lists_given h (slice_get (channels kind h) place)
+    (λ c.
+    answered (if is_copying (end_in side c.ends) then Some (payload_in side c.ends) else None) kind place
+    (if is_copying (end_in side c.ends) then with_ends (channel.told side c.ends) c else c) h)
+    (λ c is.
+    answered_lists (if is_copying (end_in side c.ends) then Some (payload_in side c.ends) else None) kind place
+    (if is_copying (end_in side c.ends) then with_ends (channel.told side c.ends) c else c) h)
+
+pub end_dropped_at_lists : (kind : EndKind) (place : ℕ) (side : Side) (h : Held) → ListsBy h (end_dropped_at kind place side h)
+end_dropped_at_lists kind place side h =
+    lists_given h (slice_get (channels kind h) place)
+    (λ c. if may_drop side c.ends then Gives (tt {0}) (with_channel kind place (with_ends (channel.dropped side c.ends) c) h) else Stuck)
+    (λ c is.
+    lists_if h (may_drop side c.ends) (Gives (tt {0}) (with_channel kind place (with_ends (channel.dropped side c.ends) c) h)) Stuck
+    (channels_stay kind (slice_set (channels kind h) place (with_ends (channel.dropped side c.ends) c)) h) tt)
+
+pub end_seen_lists : (kind : EndKind) (side : Side) (number : ℕ) (h : Held) → ListsBy h (end_seen kind side number h)
+end_seen_lists kind side number h =
+    lists_given h (channel_at kind number h) (λ c. Gives (end_in side c.ends) h) (λ c is. lists_same h)
+
+pub idle_seen_lists : (kind : EndKind) (side : Side) (number : ℕ) (h : Held) → ListsBy h (idle_seen kind side number h)
+idle_seen_lists kind side number h =
+    lists_given h (channel_at kind number h) (λ c. Gives (is_idle (end_in side c.ends)) h) (λ c is. lists_same h)
+
+pub offered_lists : (kind : EndKind) (side : Side) (number : ℕ) (by : By) (canon : ℕ) (address : ℕ) (size : ℕ) (h : Held) → ListsBy h (offered kind side number by canon address size h)
+offered_lists kind side number by canon address size h =
+    lists_given h (place_of number) (λ place. offered_at kind place side by canon address size h) (λ place is. offered_at_lists kind place side by canon address size h)
+
+pub copied_lists : (kind : EndKind) (number : ℕ) (count : ℕ) (h : Held) → ListsBy h (copied kind number count h)
+copied_lists kind number count h =
+    lists_given h (place_of number) (λ place. copied_at kind place count h) (λ place is. copied_at_lists kind place count h)
+
+pub concluded_lists : (kind : EndKind) (side : Side) (number : ℕ) (h : Held) → ListsBy h (concluded kind side number h)
+concluded_lists kind side number h =
+    lists_given h (place_of number) (λ place. concluded_at kind place side h) (λ place is. concluded_at_lists kind place side h)
+
+pub end_dropped_lists : (kind : EndKind) (side : Side) (number : ℕ) (h : Held) → ListsBy h (end_dropped kind side number h)
+end_dropped_lists kind side number h =
+    lists_given h (place_of number) (λ place. end_dropped_at kind place side h) (λ place is. end_dropped_at_lists kind place side h)

@@ -1,0 +1,69 @@
+-- Handles: lists of tasks stay as they follow from the tasks.
+use Rattle.std.proofs.Common.{refl, Some}
+use Rattle.std.specs.Prelude.{ℕ, nat_eq, not, ◌&&◌, List, [], ◌∷◌, Option, Some, None}
+use Rattle.entry_gate.specs.declared.kind.Kind.TheVariants.{Sync}
+use Rattle.tasks.specs.declared.event.TaskEvent.TheVariants as event
+use Rattle.task_table.specs.declared.errand.Callee.TheVariants as callee
+use Rattle.res_handles.specs.declared.handle.Handle.{Handle}
+use Rattle.res_handles.specs.declared.handle.Ownership.{Ownership}
+use Rattle.res_handles.specs.declared.handle.Ownership.TheVariants.{Own, Borrow}
+use Rattle.res_handles.specs.Calls.{own_handle}
+use Rattle.instances.specs.declared.entry.WorldEntry.TheVariants as entry
+use Rattle.comp_graph.specs.declared.graph.FuncRef.{FuncRef}
+use Rattle.world_parts.specs.Views.{Views}
+use Rattle.trace_show.specs.declared.trap.TrapName.TheVariants as trap
+use Rattle.world_parts.specs.declared.parts.Rest.TheVariants as rest
+use Rattle.world_parts.specs.declared.parts.Flow.TheVariants as flow
+use Rattle.world_parts.specs.Held.{Held, Gives, Traps, after}
+use Rattle.world_parts.specs.Feed.{at_rest, got}
+use Rattle.world_parts.specs.Entries.{entry_added, handle_dropped, rep_found}
+use Rattle.world_parts.specs.Slots.{word_in, happens, reenters}
+use Rattle.world_parts.specs.Calls.{call_begun}
+use Rattle.world_parts.specs.Handles.{destroyed, destroyed_by, destroyed_of, dropped, resource_drop, resource_new, resource_rep, undestroyed}
+use Rattle.run_laws.proofs.lists.Calls.{call_begun_lists}
+use Rattle.run_laws.proofs.lists.Entries.{entry_added_lists, handle_dropped_lists, rep_found_lists}
+use Rattle.run_laws.proofs.lists.Feed.{got_lists}
+use Rattle.run_laws.proofs.lists.Slots.{happens_lists}
+use Rattle.run_laws.proofs.lists.Same.{ListsBy, lists_after, lists_given, lists_if, lists_all}
+
+pub resource_new_lists : (t : ℕ) (at : ℕ) (resource : ℕ) (words : List ℕ) (h : Held) → ListsBy h (resource_new t at resource words h)
+unfolding resource_new
+resource_new_lists t at resource words h =
+    lists_given h (word_in words 0) (λ rep. after (entry_added at (entry.Handle (own_handle resource rep)) h) (λ index k. got t (index ∷ []) k)) (λ rep is. lists_after h (entry_added at (entry.Handle (own_handle resource rep)) h) (λ index k. got t (index ∷ []) k) (entry_added_lists at (entry.Handle (own_handle resource rep)) h) (λ index k. got_lists t (index ∷ []) k))
+
+pub resource_rep_lists : (t : ℕ) (at : ℕ) (resource : ℕ) (words : List ℕ) (h : Held) → ListsBy h (resource_rep t at resource words h)
+unfolding resource_rep
+resource_rep_lists t at resource words h =
+    lists_given h (word_in words 0) (λ index. after (rep_found at index resource h) (λ rep k. got t (rep ∷ []) k)) (λ index is. lists_after h (rep_found at index resource h) (λ rep k. got t (rep ∷ []) k) (rep_found_lists at index resource h) (λ rep k. got_lists t (rep ∷ []) k))
+
+pub undestroyed_lists : (t : ℕ) (at : ℕ) (instance : ℕ) (h : Held) → ListsBy h (undestroyed t at instance h)
+unfolding undestroyed
+undestroyed_lists t at instance h =
+    lists_if h (not (nat_eq instance at) && reenters instance t h) (Traps trap.Reentrant h) (got t [] h) tt (got_lists t [] h)
+
+pub destroyed_by_lists : (t : ℕ) (at : ℕ) (canon : ℕ) (x : Handle) (instance : ℕ) (ref : FuncRef) (h : Held) → ListsBy h (destroyed_by t at canon x instance ref h)
+unfolding destroyed_by
+destroyed_by_lists t at canon x instance ref h =
+    lists_if h (nat_eq instance at) (Gives (flow.Starts ref (x.rep ∷ [])) (at_rest rest.Runs h)) (call_begun t canon (callee.Destroys x.resource) instance Sync (x.rep ∷ []) h) (lists_all h (at_rest rest.Runs h) refl refl refl refl refl) (call_begun_lists t canon (callee.Destroys x.resource) instance Sync (x.rep ∷ []) h)
+
+pub destroyed_of_lists : (t : ℕ) (at : ℕ) (canon : ℕ) (x : Handle) (instance : ℕ) (o : Option FuncRef) (h : Held) → ListsBy h (destroyed_of t at canon x instance o h)
+destroyed_of_lists t at canon x instance None h =
+    undestroyed_lists t at instance h
+destroyed_of_lists t at canon x instance (Some ref) h =
+    destroyed_by_lists t at canon x instance ref h
+
+pub destroyed_lists : (g : Views) (t : ℕ) (at : ℕ) (canon : ℕ) (x : Handle) (h : Held) → ListsBy h (destroyed g t at canon x h)
+unfolding destroyed
+destroyed_lists g t at canon x h =
+    lists_given h (g.resource x.resource) (λ r. destroyed_of t at canon x r.instance r.destructor h) (λ r is. destroyed_of_lists t at canon x r.instance r.destructor h)
+
+pub dropped_lists : (g : Views) (t : ℕ) (at : ℕ) (canon : ℕ) (x : Handle) (x_2 : Ownership) (h : Held) → ListsBy h (dropped g t at canon x x_2 h)
+dropped_lists g t at canon x Own h =
+    destroyed_lists g t at canon x h
+dropped_lists g t at canon x (Borrow task) h =
+    lists_after h (happens task event.Unborrow h) (λ done k. got t [] k) (happens_lists task event.Unborrow h tt) (λ done k. got_lists t [] k)
+
+pub resource_drop_lists : (g : Views) (t : ℕ) (at : ℕ) (canon : ℕ) (resource : ℕ) (words : List ℕ) (h : Held) → ListsBy h (resource_drop g t at canon resource words h)
+unfolding resource_drop
+resource_drop_lists g t at canon resource words h =
+    lists_given h (word_in words 0) (λ index. after (handle_dropped at index resource h) (λ x k. dropped g t at canon x x.ownership k)) (λ index is. lists_after h (handle_dropped at index resource h) (λ x k. dropped g t at canon x x.ownership k) (handle_dropped_lists at index resource h) (λ x k. dropped_lists g t at canon x x.ownership k))

@@ -1,0 +1,15 @@
+pub mod Coming
+pub mod Sites
+pub mod Moved
+pub mod Ways
+pub mod Nested
+pub mod Copying
+pub mod ReturnTests
+pub mod ReturnTested
+pub mod Entering
+pub mod Ending
+pub mod Borrowed
+pub mod Lifted
+pub mod Lowering
+pub mod PostReturning
+pub mod Passed

@@ -1,0 +1,14 @@
+pub mod Silent
+pub mod Feed
+pub mod Calls
+pub mod Plain
+pub mod Handles
+pub mod Subtasks
+pub mod Events
+pub mod Waits
+pub mod Copies
+pub mod Going
+pub mod Replying
+pub mod Reads
+pub mod EndReplies
+pub mod Calling

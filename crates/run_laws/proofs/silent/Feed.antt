@@ -1,0 +1,16 @@
+-- What is told, and who acts: no event is to come next.
+use Rattle.std.specs.Prelude.{ℕ, ◌-◌, nat_lt, List, length, take}
+use Rattle.trace_show.specs.declared.label.Label.TheVariants as line
+use Rattle.world_parts.specs.declared.parts.Rest.TheVariants as rest
+use Rattle.world_parts.specs.declared.parts.Flow.TheVariants as flow
+use Rattle.world_parts.specs.Held.{Held, Gives, Stuck}
+use Rattle.world_parts.specs.Feed.{at_rest, got, left_chain, rest_behind, told, unchained}
+use Rattle.run_laws.proofs.silent.Silent.{SilentBy, silent_after, silent_if}
+
+pub left_chain_silent : (h : Held) → SilentBy (left_chain h)
+left_chain_silent h =
+    silent_if (nat_lt 0 (length h.chain)) (Gives flow.Rests (at_rest (rest_behind (take (length h.chain - 1) h.chain)) (unchained h))) (Stuck) tt tt
+
+pub got_silent : (t : ℕ) (words : List ℕ) (h : Held) → SilentBy (got t words h)
+got_silent t words h =
+    silent_after (told (line.Got t words) h) (λ done k. Gives (flow.Now words) (at_rest rest.Runs k)) (λ done k. tt)

@@ -1,0 +1,17 @@
+pub mod Found
+pub mod Known
+pub mod Kept
+pub mod Sets
+pub mod Begun
+pub mod Calls
+pub mod Moves
+pub mod Words
+pub mod Canons
+pub mod Quiet
+pub mod Woken
+pub mod Hears
+pub mod All
+pub mod Arguments
+pub mod Fitting
+pub mod Fitted
+pub mod Memories

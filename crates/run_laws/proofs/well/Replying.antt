@@ -1,0 +1,93 @@
+-- Built-ins that answer, and calls of functions: what is kept well stays so.
+use Rattle.std.specs.Prelude.{ℕ, List}
+use Rattle.builtin_kinds.specs.declared.ResourceOp.{ResourceOp}
+use Rattle.builtin_kinds.specs.declared.ResourceOp.TheVariants as resource_op
+use Rattle.builtin_kinds.specs.declared.ContextOp.{ContextOp}
+use Rattle.builtin_kinds.specs.declared.ContextOp.TheVariants as context_op
+use Rattle.builtin_kinds.specs.declared.PlainBuiltin.{PlainBuiltin}
+use Rattle.builtin_kinds.specs.declared.PlainBuiltin.TheVariants as plain
+use Rattle.task_table.specs.declared.errand.Callee.TheVariants as callee
+use Rattle.comp_graph.specs.declared.graph.BuiltinKind.{BuiltinKind}
+use Rattle.comp_graph.specs.declared.graph.BuiltinKind.TheVariants as kind
+use Rattle.comp_graph.specs.declared.graph.Lift.{Lift}
+use Rattle.comp_graph.specs.Graph.{Graph}
+use Rattle.comp_graph.specs.declared.graph.CanonFunc.{CanonFunc}
+use Rattle.comp_graph.specs.declared.graph.CanonFunc.TheVariants as canon
+use Rattle.graph_views.specs.Names.{builtin_of}
+use Rattle.graph_views.specs.Callees.{kind_of}
+use Rattle.trace_show.specs.declared.label.Label.TheVariants as line
+use Rattle.world_parts.specs.Held.{Held}
+use Rattle.replies.specs.Seen.{seen}
+use Rattle.replies.specs.Replies.{answered, begun, builtin_reply, context_reply, lowered, plain_reply, resource_reply}
+use Rattle.run_laws.specs.keeping.Well.{KeepsWell}
+use Rattle.run_laws.proofs.well.Calls.{call_begun_well}
+use Rattle.run_laws.proofs.well.Feed.{told_well}
+use Rattle.run_laws.proofs.well.Handles.{resource_drop_well, resource_new_well, resource_rep_well}
+use Rattle.run_laws.proofs.well.Plain.{backpressure_dec_well, backpressure_inc_well, backpressure_set_well, context_get_well, context_put_well, return_asked_well, task_cancel_well, task_yield_well}
+use Rattle.run_laws.proofs.well.Subtasks.{subtask_cancel_well, subtask_drop_well}
+use Rattle.run_laws.proofs.well.Waits.{set_drop_well, set_new_well, waitable_join_well}
+use Rattle.run_laws.proofs.well.Behind.{}
+
+pub begun_well : (t : ℕ) (c : CanonFunc) (words : List ℕ) (h : Held) → KeepsWell h (begun t c words h)
+begun_well t c words h =
+    told_well (line.Do t (builtin_of c) words) h
+
+pub lowered_well : (t : ℕ) (canon : ℕ) (lift : Lift) (words : List ℕ) (h : Held) → KeepsWell h (lowered t canon lift words h)
+lowered_well t canon lift words h =
+    call_begun_well t canon (callee.Lowered canon) lift.instance (kind_of lift.options) words h
+
+pub resource_reply_well : (g : Graph) (t : ℕ) (at : ℕ) (canon : ℕ) (x : ResourceOp) (resource : ℕ) (words : List ℕ) (h : Held) → KeepsWell h (resource_reply g t at canon x resource words h)
+resource_reply_well g t at canon resource_op.New resource words h =
+    resource_new_well t at resource words h
+resource_reply_well g t at canon resource_op.Drop resource words h =
+    resource_drop_well (seen g) t at canon resource words h
+resource_reply_well g t at canon resource_op.Rep resource words h =
+    resource_rep_well t at resource words h
+
+pub context_reply_well : (t : ℕ) (x : ContextOp) (number : ℕ) (words : List ℕ) (h : Held) → KeepsWell h (context_reply t x number words h)
+context_reply_well t context_op.Get number words h =
+    context_get_well t number h
+context_reply_well t context_op.Set number words h =
+    context_put_well t number words h
+
+pub plain_reply_well : (g : Graph) (t : ℕ) (at : ℕ) (canon : ℕ) (x : PlainBuiltin) (words : List ℕ) (h : Held) → KeepsWell h (plain_reply g t at canon x words h)
+plain_reply_well g t at canon plain.TaskCancel words h =
+    task_cancel_well t h
+plain_reply_well g t at canon plain.BackpressureSet words h =
+    backpressure_set_well t at words h
+plain_reply_well g t at canon plain.BackpressureInc words h =
+    backpressure_inc_well t at h
+plain_reply_well g t at canon plain.BackpressureDec words h =
+    backpressure_dec_well t at h
+plain_reply_well g t at canon (plain.SubtaskCancel is_async) words h =
+    subtask_cancel_well t at canon words h
+plain_reply_well g t at canon plain.SubtaskDrop words h =
+    subtask_drop_well t at words h
+plain_reply_well g t at canon (plain.Yield cancellable) words h =
+    task_yield_well (seen g) t canon h
+plain_reply_well g t at canon plain.WaitableSetNew words h =
+    set_new_well t at h
+plain_reply_well g t at canon plain.WaitableSetDrop words h =
+    set_drop_well t at words h
+plain_reply_well g t at canon plain.WaitableJoin words h =
+    waitable_join_well t at words h
+
+pub builtin_reply_well : (g : Graph) (t : ℕ) (at : ℕ) (canon : ℕ) (x : BuiltinKind) (words : List ℕ) (h : Held) → KeepsWell h (builtin_reply g t at canon x words h)
+builtin_reply_well g t at canon (kind.Resource op resource) words h =
+    resource_reply_well g t at canon op resource words h
+builtin_reply_well g t at canon (kind.TaskReturn result options) words h =
+    return_asked_well t h
+builtin_reply_well g t at canon (kind.Plain op) words h =
+    plain_reply_well g t at canon op words h
+builtin_reply_well g t at canon (kind.Context op slot) words h =
+    context_reply_well t op slot words h
+builtin_reply_well g t at canon (kind.Wait op cancellable memory) words h =
+    tt
+builtin_reply_well g t at canon (kind.End of_what element op) words h =
+    tt
+
+pub answered_well : (g : Graph) (t : ℕ) (number : ℕ) (x : CanonFunc) (words : List ℕ) (h : Held) → KeepsWell h (answered g t number x words h)
+answered_well g t number (canon.Lower l) words h =
+    lowered_well t number l.lift words h
+answered_well g t number (canon.Builtin b) words h =
+    builtin_reply_well g t b.instance number b.kind words h

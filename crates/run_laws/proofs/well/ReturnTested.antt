@@ -1,0 +1,17 @@
+-- What `task.return` tests of a program: what is kept well stays so.
+use Rattle.std.specs.Prelude.{ℕ}
+use Rattle.graph_views.specs.Canons.{options_at}
+use Rattle.programs.specs.Program.{returned_of, value_of}
+use Rattle.programs.specs.declared.program.Program.{Program}
+use Rattle.world_parts.specs.Held.{Held}
+use Rattle.world_parts.specs.Slots.{callee_of}
+use Rattle.return_replies.specs.Returns.{type_of, return_checked}
+use Rattle.value_moves.specs.Resolving.{return_tested, type_by}
+use Rattle.run_laws.specs.keeping.Well.{KeepsWell}
+use Rattle.run_laws.proofs.well.Behind.{well_after}
+use Rattle.run_laws.proofs.well.Slots.{callee_of_well}
+use Rattle.run_laws.proofs.well.ReturnTests.{return_checked_well}
+
+pub return_tested_well : (p : Program) (t : ℕ) (canon : ℕ) (h : Held) → KeepsWell h (return_tested p t canon h)
+return_tested_well p t canon h =
+    well_after h (callee_of t h) (λ callee k. return_checked p.graph.now t (type_of (type_by p (value_of p canon))) (type_of (type_by p (returned_of p callee))) (options_at p.graph.now canon) k) (callee_of_well t h) (λ callee k. return_checked_well p.graph.now t (type_of (type_by p (value_of p canon))) (type_of (type_by p (returned_of p callee))) (options_at p.graph.now canon) k)

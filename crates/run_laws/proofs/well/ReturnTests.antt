@@ -1,0 +1,22 @@
+-- What `task.return` tests: what is kept well stays so.
+use Rattle.std.specs.Prelude.{ℕ, Bool, not, if◌then◌else◌, Option}
+use Rattle.ca_types.specs.declared.types.ValType.{ValType}
+use Rattle.comp_graph.specs.declared.graph.Options.{Options}
+use Rattle.comp_graph.specs.Graph.{Graph}
+use Rattle.graph_views.specs.Callees.{lift_of}
+use Rattle.trace_show.specs.declared.trap.TrapName.TheVariants as trap
+use Rattle.world_parts.specs.Held.{Held, Gives, Traps, given}
+use Rattle.world_parts.specs.Slots.{callee_of}
+use Rattle.world_parts.specs.Places.{memory_of}
+use Rattle.return_replies.specs.Returns.{checked, return_checked, same_held, same_memory}
+use Rattle.run_laws.specs.keeping.Well.{KeepsWell}
+use Rattle.run_laws.proofs.well.Behind.{well_after, well_given, well_if, well_same}
+use Rattle.run_laws.proofs.well.Slots.{callee_of_well}
+
+pub checked_well : (is_same : Bool) (options : Options) (lifted : Options) (h : Held) → KeepsWell h (checked is_same options lifted h)
+checked_well is_same options lifted h =
+    well_if h (not is_same) (Traps trap.WrongResult h) (if not (same_memory (memory_of options h) (memory_of lifted h)) then Traps trap.WrongOptions h else Gives (tt {0}) h) tt (well_if h (not (same_memory (memory_of options h) (memory_of lifted h))) (Traps trap.WrongOptions h) (Gives (tt {0}) h) tt (well_same h))
+
+pub return_checked_well : (g : Graph) (t : ℕ) (result : Option ValType) (wanted : Option ValType) (options : Options) (h : Held) → KeepsWell h (return_checked g t result wanted options h)
+return_checked_well g t result wanted options h =
+    well_after h (callee_of t h) (λ callee k. given (lift_of g callee) (λ lift. checked (same_held result wanted) options lift.options k)) (callee_of_well t h) (λ callee k. well_given k (lift_of g callee) (λ lift. checked (same_held result wanted) options lift.options k) (λ lift is. checked_well (same_held result wanted) options lift.options k))
