@@ -58,6 +58,40 @@ def results_again(count):
     return formats.component(formats.placing(), made, returned), b"", 1
 
 
+def outer_type(index):
+    """A declaration of an instance type: the type of this index of what is around it."""
+    return b"\x02\x03\x02" + u32(1) + u32(index)
+
+
+def holding(index, names):
+    """A type of instances that has instances of the type of this index under these names."""
+    return formats.instance_type([outer_type(index)] + [b"\x04" + formats.ext(text) + b"\x05" + u32(0) for text in names])
+
+
+def bringing(count):
+    """A type of instances that brings so many resources."""
+    return formats.instance_type([b"\x04" + formats.ext(text) + b"\x03\x01" for text in formats.short_names(count, 4)])
+
+
+def brought(count):
+    """A type that brings so many resources, and one that has an instance of it."""
+    return formats.component(types([bringing(count), holding(0, ["i"])])), b"", 1
+
+
+def brought_twice(count):
+    """So many types of instances, each with two instances of the one before it. The first brings a resource."""
+    return formats.component(types([bringing(1)] + [holding(index, ["a", "b"]) for index in range(count)])), b"", 1
+
+
+def handles_moved(count):
+    """A type with so many functions over one type of as many labels and a handle, and one that has an instance of it."""
+    labels = formats.short_names(count, 4)
+    passed = [RESOURCE, b"\x69" + u32(0), b"\x6d" + vec(formats.name(label) for label in labels), formats.tuple_of([u32(1), u32(2)])]
+    funcs = [b"\x01\x40" + vec([formats.name(label) + u32(0)]) + b"\x01\x00" for label in labels]
+    exports = [b"\x04" + formats.ext(label) + b"\x01" + u32(1 + index) for index, label in enumerate(labels)]
+    return formats.component(types(passed + [formats.instance_type([outer_type(3)] + funcs + exports), holding(4, ["i"])])), b"", 1
+
+
 def one_call(lines):
     """A script that calls a function of nothing and then has these lines."""
     parts = [section(1, formats.module(["f"])), formats.instance(), formats.aliases(["f"]), formats.func_type([])]
@@ -92,6 +126,10 @@ CASES = [
     Case("types of resources in a component with 255 instances", 4_000, resources_again, command="check", lacking=True),
     full("types of resources", 5_592_000, resources),
     Case("fields of a record, and as many task.return of it", 600_000, results_again, command="check"),
+    Case("resources that an instance type brings", 500_000, brought, command="check", lacking=True),
+    full("resources that an instance type brings", 1_048_576, brought),
+    Case("instance types that double what they bring", 40, brought_twice, command="check", lacking=True),
+    Case("functions over a type of as many labels and a handle, moved", 100_000, handles_moved, command="check", lacking=True),
     Case("cancellations of a script", 116_000, cancels, doubles=False),
     Case("lines of picks of a script", 149_000, pick_lines, doubles=False),
     Case("picks on a line of a script", 524_000, picks, doubles=False),
