@@ -3,7 +3,7 @@ use Rattle.std.proofs.Common.{◌≡◌, ℕ, ◌+◌, ◌%◌, ◌^◌, ◌<◌
 use native.Mathlib.Nat.{mod-add-mod, mod-eq_of_lt, add_assoc, add-zero, zero-add}
 use Rattle.std.specs.List.{fold, sum_by}
 use Rattle.std.proofs.lemmas.List.Sums.{sum_by-cons}
-use Rattle.trace_show.specs.declared.label.Label.{Label}
+use Rattle.trace_labels.specs.declared.label.Label.{Label}
 use Rattle.trace_show.specs.LabelText.{label_text}
 use Rattle.trace_show.specs.Tally.{Tally, count_in, sum_in, with_line, with_lines, counted, nothing, last_text, tally_of}
 

@@ -5,8 +5,9 @@ use Rattle.std.specs.List.{flat_map, list_all, range_with_len}
 use Rattle.std.specs.Fmt.{decimal}
 use Rattle.std.specs.Int.{w32, to_be_bytes, div_ceil}
 use Rattle.hex.specs.Hex.{encode_lower}
-use Rattle.trace_show.specs.declared.dump.LiveEntry.{LiveEntry}
-use Rattle.trace_show.specs.LabelText.{line, instance_text}
+use Rattle.trace_labels.specs.declared.dump.LiveEntry.{LiveEntry}
+use Rattle.trace_labels.specs.Parts.{instance_text}
+use Rattle.trace_show.specs.LabelText.{line}
 use Rattle.trace_show.specs.EntryText.{live_entry_text}
 
 -- the texts of items that are numbered, from a number on

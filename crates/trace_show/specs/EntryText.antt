@@ -1,16 +1,15 @@
 -- The lines of the entries of a table: a line for each, with its index.
 use Rattle.std.specs.Prelude.{ℕ, List, ◌++◌, codes}
 use Rattle.std.specs.Fmt.{decimal}
-use Rattle.trace_show.specs.declared.label.Channel.{Channel}
-use Rattle.trace_show.specs.declared.label.Channel.TheVariants.{Stream, Future}
-use Rattle.trace_show.specs.declared.dump.Side.{Side}
-use Rattle.trace_show.specs.declared.dump.Side.TheVariants.{Readable, Writable}
-use Rattle.trace_show.specs.declared.dump.EndState.{EndState}
-use Rattle.trace_show.specs.declared.dump.EndState.TheVariants.{Idle, Copying, Done}
-use Rattle.trace_show.specs.declared.dump.Entry.{Entry}
-use Rattle.trace_show.specs.declared.dump.Entry.TheVariants.{Own, Borrow, Subtask, Set, End}
-use Rattle.trace_show.specs.declared.dump.LiveEntry.{LiveEntry}
-use Rattle.trace_show.specs.LabelText.{line, listed, task_text, channel_text}
+use Rattle.trace_labels.specs.declared.label.Channel.{Channel}
+use Rattle.trace_labels.specs.declared.label.Channel.TheVariants.{Stream, Future}
+use Rattle.trace_labels.specs.declared.dump.Side.{Side}
+use Rattle.trace_labels.specs.declared.dump.Side.TheVariants.{Readable, Writable}
+use Rattle.trace_labels.specs.declared.dump.Entry.{Entry}
+use Rattle.trace_labels.specs.declared.dump.Entry.TheVariants.{Own, Borrow, Subtask, Set, End}
+use Rattle.trace_labels.specs.declared.dump.LiveEntry.{LiveEntry}
+use Rattle.trace_labels.specs.Parts.{task_text, channel_text, state_text}
+use Rattle.trace_show.specs.LabelText.{line, listed}
 
 abbrev pub resource_text : ℕ → List ℕ
 resource_text number = codes "R" ++ decimal number
@@ -21,11 +20,6 @@ end_text (Stream number) Readable = codes "stream-readable"
 end_text (Stream number) Writable = codes "stream-writable"
 end_text (Future number) Readable = codes "future-readable"
 end_text (Future number) Writable = codes "future-writable"
-
-abbrev pub state_text : EndState → List ℕ
-state_text Idle = codes "idle"
-state_text Copying = codes "copying"
-state_text Done = codes "done"
 
 abbrev pub entry_text : Entry → List ℕ
 entry_text (Own resource rep lends) =

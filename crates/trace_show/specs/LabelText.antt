@@ -4,28 +4,15 @@ use Rattle.std.specs.Prelude.{ℕ, List, [], ◌∷◌, ◌++◌, length, Option
 use Rattle.std.specs.List.{flat_map}
 use Rattle.std.specs.Fmt.{decimal}
 use Rattle.ca_base.specs.Texts.{separated}
-use Rattle.trace_show.specs.declared.label.Channel.{Channel}
-use Rattle.trace_show.specs.declared.label.Channel.TheVariants.{Stream, Future}
-use Rattle.trace_show.specs.declared.label.BlockReason.{BlockReason}
-use Rattle.trace_show.specs.declared.label.BlockReason.TheVariants as blocks
-use Rattle.trace_show.specs.declared.label.Copied.{Copied}
-use Rattle.trace_show.specs.declared.label.Copied.TheVariants.{Units, Values}
-use Rattle.trace_show.specs.declared.label.Label.{Label}
-use Rattle.trace_show.specs.declared.label.Label.TheVariants.{Take, Cancel, Choose, Call, Enter, Exit, Do, Got, Block, Go, Event, Copy, Lend, Unlend, Return, Cancelled, Done, Trap, Deadlock, Fuel}
-use Rattle.trace_show.specs.declared.typed.TypedValue.{TypedValue}
-use Rattle.trace_show.specs.Names.{builtin_text, trap_text}
+use Rattle.trace_labels.specs.declared.label.Copied.{Copied}
+use Rattle.trace_labels.specs.declared.label.Copied.TheVariants.{Units, Values}
+use Rattle.trace_labels.specs.declared.label.Label.{Label}
+use Rattle.trace_labels.specs.declared.label.Label.TheVariants.{Take, Cancel, Choose, Call, Enter, Exit, Do, Got, Block, Go, Event, Copy, Lend, Unlend, Return, Cancelled, Done, Trap, Deadlock, Fuel}
+use Rattle.trace_labels.specs.declared.typed.TypedValue.{TypedValue}
+use Rattle.trace_labels.specs.Names.{builtin_text, trap_text}
+use Rattle.trace_labels.specs.Parts.{instance_text, task_text, channel_text, reason_text}
 use Rattle.ca_types.specs.NameText.{name_text}
 use Rattle.trace_show.specs.Typed.{typed_text, each_typed_text, count_of}
-
-abbrev pub instance_text : ℕ → List ℕ
-instance_text number = codes "I" ++ decimal number
-
-abbrev pub task_text : ℕ → List ℕ
-task_text number = codes "T" ++ decimal number
-
-abbrev pub channel_text : Channel → List ℕ
-channel_text (Stream number) = codes "S" ++ decimal number
-channel_text (Future number) = codes "F" ++ decimal number
 
 -- a list, in parentheses
 abbrev pub listed : {A : Type 0} → (A → List ℕ) → List A → List ℕ
@@ -47,15 +34,6 @@ result_text (Some value) = codes "(" ++ typed_text value ++ codes ")"
 abbrev pub copied_text : Copied → List ℕ
 copied_text (Units count) = decimal count ++ codes " ()"
 copied_text (Values elements) = decimal (count_of elements) ++ codes " (" ++ each_typed_text elements ++ codes ")"
-
-abbrev pub reason_text : BlockReason → List ℕ
-reason_text blocks.Entry = codes "entry"
-reason_text blocks.Yield = codes "yield"
-reason_text (blocks.Wait set) = codes "wait " ++ decimal set
-reason_text (blocks.Poll set) = codes "poll " ++ decimal set
-reason_text (blocks.Call callee) = codes "call " ++ task_text callee
-reason_text (blocks.Copy end) = codes "copy " ++ decimal end
-reason_text (blocks.Cancel subtask) = codes "cancel " ++ decimal subtask
 
 -- tasks, each behind a space
 abbrev pub tasks_text : List ℕ → List ℕ

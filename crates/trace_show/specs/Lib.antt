@@ -1,7 +1,6 @@
 pub mod DumpText
 pub mod EntryText
 pub mod LabelText
-pub mod Names
 pub mod Tally
 pub mod Trace
 pub mod Typed

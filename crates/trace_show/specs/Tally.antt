@@ -4,10 +4,10 @@ use Rattle.std.specs.Prelude.{ℕ, ◌+◌, ◌-◌, ◌%◌, ◌^◌, List, [],
 use Rattle.std.specs.List.{fold, sum_by}
 use Rattle.ca_types.specs.declared.value.Value.{Value, out-Value}
 use Rattle.ca_types.specs.declared.value.Value.TheOpen.{Value-F}
-use Rattle.trace_show.specs.declared.label.Copied.{Copied}
-use Rattle.trace_show.specs.declared.label.Copied.TheVariants.{Units, Values}
-use Rattle.trace_show.specs.declared.label.Label.{Label}
-use Rattle.trace_show.specs.declared.label.Label.TheVariants.{Copy}
+use Rattle.trace_labels.specs.declared.label.Copied.{Copied}
+use Rattle.trace_labels.specs.declared.label.Copied.TheVariants.{Units, Values}
+use Rattle.trace_labels.specs.declared.label.Label.{Label}
+use Rattle.trace_labels.specs.declared.label.Label.TheVariants.{Copy}
 use Rattle.trace_show.specs.Typed.{count_of}
 use Rattle.trace_show.specs.LabelText.{label_text}
 

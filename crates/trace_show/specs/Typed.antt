@@ -2,8 +2,8 @@
 use Rattle.std.specs.Prelude.{ℕ, List, length, codes}
 use Rattle.ca_base.specs.Texts.{separated}
 use Rattle.ca_types.specs.ValueText.{value_text}
-use Rattle.trace_show.specs.declared.typed.TypedValue.{TypedValue}
-use Rattle.trace_show.specs.declared.typed.TypedValues.{TypedValues}
+use Rattle.trace_labels.specs.declared.typed.TypedValue.{TypedValue}
+use Rattle.trace_labels.specs.declared.typed.TypedValues.{TypedValues}
 
 -- a value, by its type
 abbrev pub typed_text : TypedValue → List ℕ

@@ -3,17 +3,16 @@
 ghost use Rattle.std.specs.Prelude.{◌≡◌, ◌++◌, ◌*◌, ◌≤◌, ◌==◌, OnOk, IfOk, map, length, take};
 ghost use Rattle.std.specs.List.{list_all};
 ghost use Rattle.hex.specs.Hex.{encode_lower};
-ghost use Rattle.trace_show.specs.declared.dump.Entry.TheVariants.{Own, Borrow, Subtask, End};
+ghost use Rattle.trace_labels.specs.declared.dump.Entry.TheVariants.{Own, Borrow, Subtask, End};
 ghost use Rattle.trace_show.specs.LabelText.{listed};
 ghost use Rattle.std.specs.Fmt.{decimal};
 ghost use Rattle.trace_show.specs.EntryText.{end_text, entry_text};
 ghost use Rattle.trace_show.specs.DumpText.{numbered, instance_lines, memory_lines, row_text, row_of, rows_text, dump_text};
 
-use crate::dump::{Dump, EndState, Entry, LiveEntry, Side};
-use crate::label::Channel;
 use crate::lines::push_str;
 use ca_base::{Bytes, Memory, Seq, Text, push_all, push_separated};
 use std::alloc::Global;
+use trace_labels::{Channel, Dump, EndState, Entry, LiveEntry, Side};
 
 /// The bytes of a page of memory.
 const PAGE: usize = 65_536;

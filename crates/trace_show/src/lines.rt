@@ -1,15 +1,13 @@
 //! The texts of labels.
 
 ghost use Rattle.std.specs.Prelude.{◌≡◌, ◌++◌, OnOk, IfOk};
-ghost use Rattle.trace_show.specs.declared.label.Label.TheVariants.{Take, Choose, Call, Block, Event, Lend, Unlend, Trap};
+ghost use Rattle.trace_labels.specs.declared.label.Label.TheVariants.{Take, Choose, Call, Block, Event, Lend, Unlend, Trap};
 ghost use Rattle.trace_show.specs.LabelText.{label_text, words_text, args_text, result_text, copied_text};
 
-use crate::label::{BlockReason, Copied, Label};
-use crate::trap::TrapName;
-use crate::typed::TypedValue;
 use crate::values::{push_each_typed, push_typed};
 use ca_base::{Bytes, Memory, Name, Seq, Text, push_all, push_separated};
 use std::alloc::Global;
+use trace_labels::{BlockReason, Copied, Label, TrapName, TypedValue};
 use value_texts::push_name;
 
 /// Appends a text.
@@ -56,7 +54,7 @@ struct Tasks;
 
 impl Text for Tasks {
     ghost use Rattle.std.specs.Prelude.{◌++◌, codes};
-    ghost use Rattle.trace_show.specs.LabelText.{task_text};
+    ghost use Rattle.trace_labels.specs.Parts.{task_text};
 
     type Item = u32;
 

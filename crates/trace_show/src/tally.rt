@@ -2,11 +2,11 @@
 
 ghost use Rattle.std.specs.Prelude.{◌≡◌, ◌+◌, ◌%◌, ◌^◌, List};
 ghost use Rattle.std.specs.List.{sum_by};
-ghost use Rattle.trace_show.specs.declared.label.Label.{Label};
+ghost use Rattle.trace_labels.specs.declared.label.Label.{Label};
 ghost use Rattle.trace_show.specs.Tally.{number_in, copied_count, copied_sum, count_in, sum_in, nothing, with_lines, counted};
 
-use crate::label::{Copied, Label};
 use ca_types::Value;
+use trace_labels::{Copied, Label};
 
 /// A value's number, which is 0 where the value is no unsigned 32-bit integer.
 fn number_in(value: &Value) -> u64

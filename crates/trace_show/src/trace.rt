@@ -7,12 +7,12 @@ ghost use Rattle.trace_show.specs.LabelText.{label_text};
 ghost use Rattle.trace_show.specs.Tally.{tally_of, with_line, nothing, without_feed};
 ghost use Rattle.trace_show.specs.Trace.{put_so_far, HasPutCause};
 
-use crate::label::Label;
 use crate::lines::push_label;
 use crate::tally::{with_count, with_sum};
 use ca_base::{Memory, MemoryOr};
 use ca_io::{Failed, Sink, write_all};
 use std::alloc::Global;
+use trace_labels::Label;
 
 /// How many bytes a trace writes at a time, and each time so many are kept back.
 pub const ROOM: usize = 4_096;

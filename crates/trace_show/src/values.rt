@@ -4,10 +4,10 @@ ghost use Rattle.std.specs.Prelude.{◌≡◌, ◌++◌, OnOk};
 ghost use Rattle.ca_types.specs.ValueText.{value_text};
 ghost use Rattle.trace_show.specs.Typed.{typed_text, each_typed_text};
 
-use crate::typed::{TypedValue, TypedValues};
 use ca_base::Memory;
 use ca_types::{ValType, Value};
 use std::alloc::Global;
+use trace_labels::{TypedValue, TypedValues};
 use value_texts::value_text;
 
 /// Appends the text of a value of a type.

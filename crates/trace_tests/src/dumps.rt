@@ -6,7 +6,8 @@ use cases::{Answers, bytes_of};
 use std::alloc::Global;
 use std::str::from_utf8;
 use std::test::Fail;
-use trace_show::{Channel, Dump, EndState, Entry, LiveEntry, Side, dump_text};
+use trace_labels::{Channel, Dump, EndState, Entry, LiveEntry, Side};
+use trace_show::dump_text;
 
 /// How an end stands.
 fn state_of(word: &str) -> Option<EndState> {

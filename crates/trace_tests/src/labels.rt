@@ -3,7 +3,7 @@
 use ca_base::Seq;
 use std::alloc::{AllocError, Global};
 use std::test::Fail;
-use trace_show::{BlockReason, Builtin, Channel, Copied, Label, TrapName};
+use trace_labels::{BlockReason, Builtin, Channel, Copied, Label, TrapName};
 
 /// The numbers of a text, with spaces between them.
 pub fn numbers_of(alloc: Global, text: &str) -> Result<Vec<u64>, Fail> {

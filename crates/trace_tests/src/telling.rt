@@ -3,7 +3,8 @@
 use std::alloc::Global;
 use std::str::from_utf8;
 use std::test::Fail;
-use trace_show::{Label, label_text};
+use trace_labels::Label;
+use trace_show::label_text;
 use type_texts::text_of;
 
 /// The line of bytes, without the line feed at its end. It fails if none is there.

@@ -11,7 +11,8 @@ use cases::Answers;
 use std::alloc::{AllocError, Global};
 use std::str::from_utf8;
 use std::test::Fail;
-use trace_show::{Channel, Copied, Label, ROOM, Trace};
+use trace_labels::{Channel, Copied, Label};
+use trace_show::{ROOM, Trace};
 
 /// Writes a label's line to a sink. That the sink took it all, and nothing else, follows from the clauses of a trace.
 fn write_label<K: Sink>(alloc: Global, label: &Label, sink: &mut K) -> Result<(), MemoryOr<Failed>>

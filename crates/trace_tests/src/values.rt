@@ -5,7 +5,7 @@ use ca_base::{Name, Seq};
 use ca_types::{ValType, Value, fits};
 use std::alloc::Global;
 use std::test::Fail;
-use trace_show::{Channel, Copied, Label, TypedValue, TypedValues};
+use trace_labels::{Channel, Copied, Label, TypedValue, TypedValues};
 use type_texts::{type_of, value_of, values_of};
 
 /// Whether a value is of a type.

@@ -1,6 +1,6 @@
 //! Built-ins and traps by the names of their variants.
 
-use trace_show::{Builtin, TrapName};
+use trace_labels::{Builtin, TrapName};
 
 /// The lowered import, a built-in of resources, tasks and subtasks, or another one.
 pub fn builtin_of(word: &str) -> Option<Builtin> {

@@ -1,9 +1,9 @@
 -- The names of built-ins and traps.
 use Rattle.std.specs.Prelude.{ℕ, List, codes}
-use Rattle.trace_show.specs.declared.builtin.Builtin.{Builtin}
-use Rattle.trace_show.specs.declared.builtin.Builtin.TheVariants as call
-use Rattle.trace_show.specs.declared.trap.TrapName.{TrapName}
-use Rattle.trace_show.specs.declared.trap.TrapName.TheVariants as trap
+use Rattle.trace_labels.specs.declared.builtin.Builtin.{Builtin}
+use Rattle.trace_labels.specs.declared.builtin.Builtin.TheVariants as call
+use Rattle.trace_labels.specs.declared.trap.TrapName.{TrapName}
+use Rattle.trace_labels.specs.declared.trap.TrapName.TheVariants as trap
 
 -- the whole name of a built-in
 abbrev pub builtin_text : Builtin → List ℕ

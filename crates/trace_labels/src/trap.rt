@@ -1,7 +1,7 @@
 //! The names of traps.
 
 ghost use Rattle.std.specs.Prelude.{◌≡◌};
-ghost use Rattle.trace_show.specs.Names.{trap_text};
+ghost use Rattle.trace_labels.specs.Names.{trap_text};
 
 use std::fmt;
 
@@ -157,7 +157,7 @@ impl TrapName {
 
 impl fmt::Display for TrapName {
     ghost use Rattle.std.specs.Prelude.{Some};
-    ghost use Rattle.trace_show.specs.Names.{trap_text};
+    ghost use Rattle.trace_labels.specs.Names.{trap_text};
 
     ghost output = { λ name. Some (trap_text name) };
 

@@ -18,7 +18,7 @@ pub enum Channel {
 
 impl fmt::Display for Channel {
     ghost use Rattle.std.specs.Prelude.{Some};
-    ghost use Rattle.trace_show.specs.LabelText.{channel_text};
+    ghost use Rattle.trace_labels.specs.Parts.{channel_text};
 
     ghost output = { λ channel. Some (channel_text channel) };
 
@@ -51,7 +51,7 @@ pub enum BlockReason {
 
 impl fmt::Display for BlockReason {
     ghost use Rattle.std.specs.Prelude.{Some};
-    ghost use Rattle.trace_show.specs.LabelText.{reason_text};
+    ghost use Rattle.trace_labels.specs.Parts.{reason_text};
 
     ghost output = { λ reason. Some (reason_text reason) };
 

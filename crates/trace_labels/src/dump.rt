@@ -27,7 +27,7 @@ pub enum EndState {
 
 impl fmt::Display for EndState {
     ghost use Rattle.std.specs.Prelude.{Some};
-    ghost use Rattle.trace_show.specs.EntryText.{state_text};
+    ghost use Rattle.trace_labels.specs.Parts.{state_text};
 
     ghost output = { λ state. Some (state_text state) };
 

@@ -1,7 +1,7 @@
 //! The names of built-ins.
 
 ghost use Rattle.std.specs.Prelude.{◌≡◌};
-ghost use Rattle.trace_show.specs.Names.{builtin_text};
+ghost use Rattle.trace_labels.specs.Names.{builtin_text};
 
 use std::fmt;
 
@@ -121,7 +121,7 @@ impl Builtin {
 
 impl fmt::Display for Builtin {
     ghost use Rattle.std.specs.Prelude.{Some};
-    ghost use Rattle.trace_show.specs.Names.{builtin_text};
+    ghost use Rattle.trace_labels.specs.Names.{builtin_text};
 
     ghost output = { λ b. Some (builtin_text b) };
 
