@@ -19,28 +19,28 @@ use Rattle.script_reader.specs.declared.script.Call.{Call}
 use Rattle.script_reader.specs.declared.script.Item.{Item}
 use Rattle.script_reader.specs.declared.script.Item.TheVariants as item
 use Rattle.script_reader.specs.Script.{Script}
-use Rattle.trace_show.specs.declared.builtin.Builtin.{Builtin}
-use Rattle.trace_show.specs.declared.label.Label.{Label}
-use Rattle.trace_show.specs.declared.label.Label.TheVariants as line
-use Rattle.trace_show.specs.declared.trap.TrapName.TheVariants as trap
-use Rattle.canonical_machine.specs.declared.run_end.RunEnd.TheVariants.{Trapped}
-use Rattle.canonical_machine.specs.Control.{Control, Free, Doomed}
-use Rattle.canonical_machine.specs.World.{Callee, Init, Func, Caller, Guest, TaskState, AfterCall, Task, World, new_task, first_world}
-use Rattle.canonical_machine.specs.Edits.{with_control, changed_at, in_state}
-use Rattle.canonical_machine.specs.Reading.{lower_of, lower_at, lifted_of, builtin_of, acting, func_of, subtask_of, is_in, is_among, is_of_task, is_among_callers, is_reentrant, has_exited, is_instantiated, may_leave}
-use Rattle.canonical_machine.specs.Turn.{Turn, Steps, behind, given, doomed}
-use Rattle.canonical_machine.specs.Calling.{begun, called_by, call_begun}
-use Rattle.canonical_machine.specs.Reply.{reply, allowed, calling_turn}
-use Rattle.canonical_machine.specs.Next.{next_by, next}
-use Rattle.canonical_machine.specs.Sound.{IsSound, IsSoundCall}
-use Rattle.canonical_machine.specs.Owners.{IsApart}
-use Rattle.canonical_machine.specs.Over.{Stands as OnChain, IsOver, OthersExited}
-use Rattle.canonical_machine.specs.Tasks.{IsAt, AreCalled, AreWaiting, IsChain}
-use Rattle.canonical_machine.specs.Kept.{AreMadeBy, IsCalling, IsOfActing, IsKeptBy}
-use Rattle.canonical_machine.proofs.Changed.{changed_length, get_front}
-use Rattle.canonical_machine.proofs.Deadlocks.{reached_ordered}
-use Rattle.canonical_machine.proofs.OrderSteps.{first_ordered}
-use Rattle.canonical_machine.proofs.Over.{first_over}
+use Rattle.trace_labels.specs.declared.builtin.Builtin.{Builtin}
+use Rattle.trace_labels.specs.declared.label.Label.{Label}
+use Rattle.trace_labels.specs.declared.label.Label.TheVariants as line
+use Rattle.trace_labels.specs.declared.trap.TrapName.TheVariants as trap
+use Rattle.world.specs.declared.run_end.RunEnd.TheVariants.{Trapped}
+use Rattle.world.specs.Control.{Control, Free, Doomed}
+use Rattle.world.specs.World.{Callee, Init, Func, Caller, Guest, TaskState, AfterCall, Task, World, new_task, first_world}
+use Rattle.world.specs.Edits.{with_control, changed_at, in_state}
+use Rattle.world.specs.Reading.{lower_of, lower_at, lifted_of, builtin_of, acting, func_of, subtask_of, is_in, is_among, is_of_task, is_among_callers, is_reentrant, has_exited, is_instantiated, may_leave}
+use Rattle.world.specs.Turn.{Turn, Steps, behind, given, doomed}
+use Rattle.world.specs.Calling.{begun, called_by, call_begun}
+use Rattle.world.specs.Reply.{reply, allowed, calling_turn}
+use Rattle.world.specs.Next.{next_by, next}
+use Rattle.world.specs.Sound.{IsSound, IsSoundCall}
+use Rattle.world.specs.Owners.{IsApart}
+use Rattle.world.specs.Over.{Stands as OnChain, IsOver, OthersExited}
+use Rattle.world.specs.Tasks.{IsAt, AreCalled, AreWaiting, IsChain}
+use Rattle.world.specs.Kept.{AreMadeBy, IsCalling, IsOfActing, IsKeptBy}
+use Rattle.world.proofs.Changed.{changed_length, get_front}
+use Rattle.world.proofs.Deadlocks.{reached_ordered}
+use Rattle.world.proofs.OrderSteps.{first_ordered}
+use Rattle.world.proofs.Over.{first_over}
 use Rattle.world.specs.declared.state.Waiter.{Waiter}
 use Rattle.world.specs.declared.state.RunState.{RunState}
 use Rattle.world.specs.Parts.{LeadsTo, IsSafe}

@@ -14,25 +14,25 @@ use Rattle.copy_engine.specs.declared.store_room.LowerOptions.{LowerOptions}
 use Rattle.comp_graph.specs.Graph.{Graph, Lifted}
 use Rattle.script_reader.specs.Script.{Script}
 use Rattle.script_reader.proofs.Cases.{some_inj}
-use Rattle.trace_show.specs.declared.label.Label.{Label}
-use Rattle.trace_show.specs.declared.label.Label.TheVariants as line
-use Rattle.trace_show.specs.declared.trap.TrapName.{TrapName}
-use Rattle.trace_show.specs.declared.trap.TrapName.TheVariants as trap
-use Rattle.canonical_machine.specs.declared.run_end.RunEnd.{RunEnd}
-use Rattle.canonical_machine.specs.declared.run_end.RunEnd.TheVariants.{Trapped, Fuel}
-use Rattle.canonical_machine.specs.Control.{Control, Free, Runs, Lowers, Doomed, Starts, Lowering}
-use Rattle.canonical_machine.specs.World.{Callee, Func, Task, World, first_world}
-use Rattle.canonical_machine.specs.Edits.{with_control, stacked}
-use Rattle.canonical_machine.specs.Reading.{acting, func_of, func_address, memory_of, realloc_of, builtin_of}
-use Rattle.canonical_machine.specs.Turn.{Turn, Stuck, silent, given}
-use Rattle.canonical_machine.specs.Lowering.{started, lowered}
-use Rattle.canonical_machine.specs.Passing.{arguments_plan}
-use Rattle.canonical_machine.specs.Entering.{arguments_lowering}
-use Rattle.canonical_machine.specs.Run.{RunsFrom}
-use Rattle.canonical_machine.specs.Sound.{IsSound}
-use Rattle.canonical_machine.specs.Owners.{IsApart}
-use Rattle.canonical_machine.specs.Tasks.{IsAt, AreWaiting, IsChain}
-use Rattle.canonical_machine.proofs.Changed.{changed_length, changed_there}
+use Rattle.trace_labels.specs.declared.label.Label.{Label}
+use Rattle.trace_labels.specs.declared.label.Label.TheVariants as line
+use Rattle.trace_labels.specs.declared.trap.TrapName.{TrapName}
+use Rattle.trace_labels.specs.declared.trap.TrapName.TheVariants as trap
+use Rattle.world.specs.declared.run_end.RunEnd.{RunEnd}
+use Rattle.world.specs.declared.run_end.RunEnd.TheVariants.{Trapped, Fuel}
+use Rattle.world.specs.Control.{Control, Free, Runs, Lowers, Doomed, Starts, Lowering}
+use Rattle.world.specs.World.{Callee, Func, Task, World, first_world}
+use Rattle.world.specs.Edits.{with_control, stacked}
+use Rattle.world.specs.Reading.{acting, func_of, func_address, memory_of, realloc_of, builtin_of}
+use Rattle.world.specs.Turn.{Turn, Stuck, silent, given}
+use Rattle.world.specs.Lowering.{started, lowered}
+use Rattle.world.specs.Passing.{arguments_plan}
+use Rattle.world.specs.Entering.{arguments_lowering}
+use Rattle.world.specs.Run.{RunsFrom}
+use Rattle.world.specs.Sound.{IsSound}
+use Rattle.world.specs.Owners.{IsApart}
+use Rattle.world.specs.Tasks.{IsAt, AreWaiting, IsChain}
+use Rattle.world.proofs.Changed.{changed_length, changed_there}
 use Rattle.world.specs.declared.state.RunState.{RunState}
 use Rattle.builtins.specs.declared.lower_values.Lowered.{Lowered}
 use Rattle.builtins.specs.declared.lower_values.Lowered.TheVariants as came

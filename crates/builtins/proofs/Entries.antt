@@ -9,8 +9,8 @@ use Rattle.ca_types.specs.declared.value.Value.{Value}
 use Rattle.ca_types.specs.declared.value.Value.TheViews as value
 use Rattle.ca_types.specs.Fits.{fits}
 use Rattle.value_lift.specs.declared.trap.LiftTrap.{LiftTrap}
-use Rattle.canonical_machine.specs.Values.{IsOf}
-use Rattle.canonical_machine.proofs.Ranged.{values_of_types_fit}
+use Rattle.lowering_laws.specs.Values.{IsOf}
+use Rattle.lowering_laws.proofs.Ranged.{values_of_types_fit}
 use Rattle.wasm_numbers.specs.Types.{AreWords}
 use Rattle.wasm_store.specs.Store.{Store, found_at}
 use Rattle.comp_graph.specs.declared.graph.CanonFunc.{CanonFunc}
@@ -19,33 +19,33 @@ use Rattle.comp_graph.specs.declared.graph.Lower.{Lower}
 use Rattle.comp_graph.specs.Graph.{Graph, Lifted}
 use Rattle.comp_graph.specs.Needs.{lowered_type}
 use Rattle.script_reader.specs.Script.{Script}
-use Rattle.trace_show.specs.declared.label.Label.{Label}
-use Rattle.trace_show.specs.declared.label.Label.TheVariants as line
-use Rattle.trace_show.specs.declared.trap.TrapName.{TrapName}
-use Rattle.canonical_machine.specs.declared.run_end.RunEnd.TheVariants.{Trapped}
-use Rattle.canonical_machine.specs.Plain.{HoldsNone, IsPlain}
-use Rattle.canonical_machine.specs.Passing.{params_type, arguments_plan}
-use Rattle.canonical_machine.specs.Traps.{lift_name}
-use Rattle.canonical_machine.specs.Control.{Control, Arrives, Lowers, Doomed}
-use Rattle.canonical_machine.specs.Control as controls
-use Rattle.canonical_machine.specs.World.{Subtask, Callee, Func, Caller, Host, Guest, TaskState, New, Acting, Unresolved, Task, World, first_world}
-use Rattle.canonical_machine.specs.Edits.{with_control, in_state}
-use Rattle.canonical_machine.specs.Reading.{acting, func_of, memory_of, bytes_of, lifted_of}
-use Rattle.canonical_machine.specs.Turn.{Turn, Steps, behind, given}
-use Rattle.canonical_machine.specs.Calling.{called_by}
-use Rattle.canonical_machine.specs.Entering.{passed, arguments_of, arguments_lowering, with_arguments, entered, arriving_turn}
-use Rattle.canonical_machine.specs.Next.{next, next_by}
-use Rattle.canonical_machine.specs.Sound.{IsSound}
-use Rattle.canonical_machine.specs.Sound as sounds
-use Rattle.canonical_machine.specs.Owners.{IsApart}
-use Rattle.canonical_machine.specs.Tasks.{NoStack, IsSoFar, AreWaiting, IsChain}
-use Rattle.canonical_machine.specs.Tasks as tasks
-use Rattle.canonical_machine.specs.Kept as kept
-use Rattle.canonical_machine.specs.Kept.{WereMade, HasArguments, params_by, IsOfActing, IsKeptBy}
-use Rattle.canonical_machine.proofs.Changed.{changed_length, changed_there}
-use Rattle.canonical_machine.proofs.Graphs.{IsUsed, lower_there, callee_there}
-use Rattle.canonical_machine.proofs.Staying.{memory_bytes}
-use Rattle.canonical_machine.proofs.Words.{arguments_are}
+use Rattle.trace_labels.specs.declared.label.Label.{Label}
+use Rattle.trace_labels.specs.declared.label.Label.TheVariants as line
+use Rattle.trace_labels.specs.declared.trap.TrapName.{TrapName}
+use Rattle.world.specs.declared.run_end.RunEnd.TheVariants.{Trapped}
+use Rattle.world.specs.Plain.{HoldsNone, IsPlain}
+use Rattle.world.specs.Passing.{params_type, arguments_plan}
+use Rattle.world.specs.Traps.{lift_name}
+use Rattle.world.specs.Control.{Control, Arrives, Lowers, Doomed}
+use Rattle.world.specs.Control as controls
+use Rattle.world.specs.World.{Subtask, Callee, Func, Caller, Host, Guest, TaskState, New, Acting, Unresolved, Task, World, first_world}
+use Rattle.world.specs.Edits.{with_control, in_state}
+use Rattle.world.specs.Reading.{acting, func_of, memory_of, bytes_of, lifted_of}
+use Rattle.world.specs.Turn.{Turn, Steps, behind, given}
+use Rattle.world.specs.Calling.{called_by}
+use Rattle.world.specs.Entering.{passed, arguments_of, arguments_lowering, with_arguments, entered, arriving_turn}
+use Rattle.world.specs.Next.{next, next_by}
+use Rattle.world.specs.Sound.{IsSound}
+use Rattle.world.specs.Sound as sounds
+use Rattle.world.specs.Owners.{IsApart}
+use Rattle.world.specs.Tasks.{NoStack, IsSoFar, AreWaiting, IsChain}
+use Rattle.world.specs.Tasks as tasks
+use Rattle.world.specs.Kept as kept
+use Rattle.world.specs.Kept.{WereMade, HasArguments, params_by, IsOfActing, IsKeptBy}
+use Rattle.world.proofs.Changed.{changed_length, changed_there}
+use Rattle.world.proofs.Graphs.{IsUsed, lower_there, callee_there}
+use Rattle.world.proofs.Staying.{memory_bytes}
+use Rattle.world.proofs.Words.{arguments_are}
 use Rattle.world.specs.declared.called.CalledFunc.{CalledFunc}
 use Rattle.world.specs.declared.state.Waiter.{Waiter}
 use Rattle.world.specs.declared.state.RunState.{RunState}

@@ -9,24 +9,24 @@ use Rattle.wasm_store.specs.Stack.{Stack}
 use Rattle.wasm_store.specs.Step.{resume}
 use Rattle.comp_graph.specs.Graph.{Graph}
 use Rattle.script_reader.specs.Script.{Script}
-use Rattle.trace_show.specs.declared.label.Label.{Label}
-use Rattle.trace_show.specs.declared.label.Label.TheVariants as line
-use Rattle.canonical_machine.specs.Control.{Control, Free, Runs, Back, Leaves}
-use Rattle.canonical_machine.specs.World.{Subtask, Caller, Guest, Returned, TaskState, Acting, AfterCall, Exited, Task, World, first_world}
-use Rattle.canonical_machine.specs.Edits.{with_control, changed_at, in_state, caller_changed, answered_stacks}
-use Rattle.canonical_machine.specs.Reading.{acting, subtask_of, state_number, subtask_state}
-use Rattle.canonical_machine.specs.Turn.{Steps, given}
-use Rattle.canonical_machine.specs.Next.{next, next_by}
-use Rattle.canonical_machine.specs.Returning.{control_behind, left_chain, leaving_turn}
-use Rattle.canonical_machine.specs.Calling.{call_ended, back_from, back_turn}
-use Rattle.canonical_machine.specs.Sound.{IsSound}
-use Rattle.canonical_machine.specs.Owners.{IsApart}
-use Rattle.canonical_machine.specs.Tasks.{IsAt, IsSoFar, NoStack, AreWaiting, IsBack, IsChain}
-use Rattle.canonical_machine.specs.Tasks as tasks
-use Rattle.canonical_machine.specs.Kept.{results_by, caller_results, kept_result, HasActing, IsKeptBy, AllWait, IsAnsweredBy, HasResult}
-use Rattle.canonical_machine.specs.KeptLaws.{IsKept}
-use Rattle.canonical_machine.proofs.Changed.{changed_length, changed_there, changed_other}
-use Rattle.canonical_machine.proofs.Words.{many_words}
+use Rattle.trace_labels.specs.declared.label.Label.{Label}
+use Rattle.trace_labels.specs.declared.label.Label.TheVariants as line
+use Rattle.world.specs.Control.{Control, Free, Runs, Back, Leaves}
+use Rattle.world.specs.World.{Subtask, Caller, Guest, Returned, TaskState, Acting, AfterCall, Exited, Task, World, first_world}
+use Rattle.world.specs.Edits.{with_control, changed_at, in_state, caller_changed, answered_stacks}
+use Rattle.world.specs.Reading.{acting, subtask_of, state_number, subtask_state}
+use Rattle.world.specs.Turn.{Steps, given}
+use Rattle.world.specs.Next.{next, next_by}
+use Rattle.world.specs.Returning.{control_behind, left_chain, leaving_turn}
+use Rattle.world.specs.Calling.{call_ended, back_from, back_turn}
+use Rattle.world.specs.Sound.{IsSound}
+use Rattle.world.specs.Owners.{IsApart}
+use Rattle.world.specs.Tasks.{IsAt, IsSoFar, NoStack, AreWaiting, IsBack, IsChain}
+use Rattle.world.specs.Tasks as tasks
+use Rattle.world.specs.Kept.{results_by, caller_results, kept_result, HasActing, IsKeptBy, AllWait, IsAnsweredBy, HasResult}
+use Rattle.world.specs.KeptLaws.{IsKept}
+use Rattle.world.proofs.Changed.{changed_length, changed_there, changed_other}
+use Rattle.world.proofs.Words.{many_words}
 use Rattle.world.specs.declared.state.Waiter.{Waiter}
 use Rattle.world.specs.declared.state.RunState.{RunState}
 use Rattle.world.specs.Parts.{LeadsTo}

@@ -10,8 +10,8 @@ use Rattle.copy_engine.specs.Nested.{RoomState}
 use Rattle.copy_engine.specs.Turns.{Counts}
 use Rattle.comp_graph.specs.Graph.{Graph}
 use Rattle.script_reader.specs.Script.{Script}
-use Rattle.canonical_machine.specs.Control.{Lowering}
-use Rattle.canonical_machine.specs.World.{World}
+use Rattle.world.specs.Control.{Lowering}
+use Rattle.world.specs.World.{World}
 use Rattle.builtins.specs.declared.lower_values.Lowered.{Lowered}
 use Rattle.builtins.specs.declared.lower_values.Lowered.TheVariants as lowered
 use Rattle.builtins.specs.declared.lower_values.Came.{Came}

@@ -17,26 +17,26 @@ use Rattle.copy_engine.specs.Turns.{Counts}
 use Rattle.comp_graph.specs.Needs.{realloc_type}
 use Rattle.comp_graph.specs.Graph.{Graph}
 use Rattle.script_reader.specs.Script.{Script}
-use Rattle.canonical_machine.specs.Traps.{lower_name, core_name}
-use Rattle.canonical_machine.specs.Control.{Control, Free, Lowering, Going, InLowering, Lowers, Quiet, Doomed}
-use Rattle.canonical_machine.specs.World.{World}
-use Rattle.canonical_machine.specs.Edits.{rewritten}
-use Rattle.canonical_machine.specs.Reading as machine
-use Rattle.canonical_machine.specs.Turn.{silent, given}
-use Rattle.canonical_machine.specs.Pausing as pause
-use Rattle.canonical_machine.specs.Pausing.{Paused, settle}
-use Rattle.canonical_machine.specs.Lowering.{nested_of, lowered, paused, left_by, lowers_turn}
-use Rattle.canonical_machine.specs.Nested.{nested_ended}
-use Rattle.canonical_machine.specs.Next.{next}
-use Rattle.canonical_machine.specs.declared.run_end.RunEnd.TheVariants.{Fuel}
-use Rattle.trace_show.specs.declared.label.Label.TheVariants as line
-use Rattle.trace_show.specs.declared.trap.TrapName.TheVariants as trap
+use Rattle.world.specs.Traps.{lower_name, core_name}
+use Rattle.world.specs.Control.{Control, Free, Lowering, Going, InLowering, Lowers, Quiet, Doomed}
+use Rattle.world.specs.World.{World}
+use Rattle.world.specs.Edits.{rewritten}
+use Rattle.world.specs.Reading as machine
+use Rattle.world.specs.Turn.{silent, given}
+use Rattle.world.specs.Pausing as pause
+use Rattle.world.specs.Pausing.{Paused, settle}
+use Rattle.world.specs.Lowering.{nested_of, lowered, paused, left_by, lowers_turn}
+use Rattle.world.specs.Nested.{nested_ended}
+use Rattle.world.specs.Next.{next}
+use Rattle.world.specs.declared.run_end.RunEnd.TheVariants.{Fuel}
+use Rattle.trace_labels.specs.declared.label.Label.TheVariants as line
+use Rattle.trace_labels.specs.declared.trap.TrapName.TheVariants as trap
 use Rattle.wasm_module.specs.declared.types.FuncType.{FuncType}
 use Rattle.wasm_module.specs.declared.types.ValType.TheVariants.{I32}
 use Rattle.wasm_module.specs.SameTypes.{same_types}
 use Rattle.value_lower.specs.declared.ends.LowerWhy.{LowerWhy}
-use Rattle.canonical_machine.specs.Kept.{IsFunction}
-use Rattle.canonical_machine.proofs.Apart.{never_stuck}
+use Rattle.world.specs.Kept.{IsFunction}
+use Rattle.world.proofs.Apart.{never_stuck}
 use Rattle.world.specs.Parts.{LeadsTo, with_room, IsSafe}
 use Rattle.builtins.specs.Rooms.{IsMemory, LoweringLeads, LoweringsLead}
 use Rattle.world.proofs.Leads.{leads_step, leads_then, leads_safe, meets_here, meets_behind, meets_step, ends_behind}

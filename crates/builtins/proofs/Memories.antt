@@ -8,8 +8,8 @@ use Rattle.wasm_memory.specs.Memories.{MemoryState, with_bytes}
 use Rattle.wasm_store.specs.Store.{Store, found_at}
 use Rattle.wasm_store.specs.Effects.{with_memory}
 use Rattle.copy_engine.specs.Nested.{bytes_of, bytes_in, rewritten_at, with_bytes_in}
-use Rattle.canonical_machine.specs.Edits.{rewritten}
-use Rattle.canonical_machine.specs.Reading as machine
+use Rattle.world.specs.Edits.{rewritten}
+use Rattle.world.specs.Reading as machine
 use Rattle.builtins.specs.Rooms.{IsMemory}
 use Rattle.builtins.proofs.Counts.{HasAsMany}
 

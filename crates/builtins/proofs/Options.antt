@@ -9,10 +9,10 @@ use Rattle.comp_graph.specs.declared.graph.Lower.{Lower}
 use Rattle.comp_graph.specs.CoreItems.{memory_space}
 use Rattle.comp_graph.specs.Needs.{realloc_type}
 use Rattle.comp_graph.specs.Graph.{Graph, Lifted, IsMemoryThere}
-use Rattle.canonical_machine.proofs.Synchronous.{core_type, IsLowerThere}
-use Rattle.canonical_machine.specs.Kept.{HasHosts, WereMade}
-use Rattle.canonical_machine.specs.Reading.{address_in, func_address}
-use Rattle.canonical_machine.proofs.Graphs.{IsUsed, func_there}
+use Rattle.world.proofs.Synchronous.{core_type, IsLowerThere}
+use Rattle.world.specs.Kept.{HasHosts, WereMade}
+use Rattle.world.specs.Reading.{address_in, func_address}
+use Rattle.world.proofs.Graphs.{IsUsed, func_there}
 use Rattle.world.specs.Addresses.{HasOptions}
 
 some_is : {A : Type 0} (o : Option A) → IsSome o → (x : A) × (o ≡ Some x)

@@ -12,7 +12,7 @@ use Rattle.wasm_numbers.specs.Types.{AreWords}
 use Rattle.comp_graph.specs.Needs.{core_val, lowered_type}
 use Rattle.value_lower.specs.Lowering.{stored, placed, flat_lowered}
 use Rattle.value_lower.specs.Plan.{Plan}
-use Rattle.canonical_machine.specs.Passing.{last_of, params_type, result_plan, arguments_plan}
+use Rattle.world.specs.Passing.{last_of, params_type, result_plan, arguments_plan}
 use Rattle.world.proofs.LiftedArguments.{in_memory, in_words}
 use Rattle.world.proofs.LiftedResults.{many_more, one_at_most}
 

@@ -9,12 +9,12 @@ use Rattle.comp_graph.specs.declared.graph.Lower.{Lower}
 use Rattle.comp_graph.specs.declared.graph.CanonFunc.{CanonFunc}
 use Rattle.comp_graph.specs.declared.graph.CanonFunc.TheVariants as canon_func
 use Rattle.comp_graph.specs.Graph.{Graph, Lifted, names, func_at}
-use Rattle.canonical_machine.specs.Synchronous.{called_type}
+use Rattle.world.specs.Synchronous.{called_type}
 use Rattle.script_reader.specs.Script.{Script}
-use Rattle.canonical_machine.specs.World.{Func, Task}
-use Rattle.canonical_machine.specs.Reading.{lower_at}
-use Rattle.canonical_machine.specs.Plain.{PassesNone, IsPlain}
-use Rattle.canonical_machine.proofs.Graphs.{same_func}
+use Rattle.world.specs.World.{Func, Task}
+use Rattle.world.specs.Reading.{lower_at}
+use Rattle.world.specs.Plain.{PassesNone, IsPlain}
+use Rattle.world.proofs.Graphs.{same_func}
 use Rattle.world.specs.declared.state.Waiter.{Waiter}
 use Rattle.world.specs.Seen.{IsCalled}
 use Rattle.world.proofs.Items.{function_at}

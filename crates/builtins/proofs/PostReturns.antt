@@ -18,23 +18,23 @@ use Rattle.comp_graph.specs.declared.graph.FuncRef.{FuncRef}
 use Rattle.comp_graph.specs.Graph.{Graph, Lifted}
 use Rattle.script_reader.specs.Script.{Script}
 use Rattle.script_reader.proofs.Cases.{some_inj}
-use Rattle.trace_show.specs.declared.label.Label.{Label}
-use Rattle.trace_show.specs.declared.label.Label.TheVariants as line
-use Rattle.trace_show.specs.declared.trap.TrapName.{TrapName}
-use Rattle.trace_show.specs.declared.trap.TrapName.TheVariants as trap
-use Rattle.canonical_machine.specs.declared.run_end.RunEnd.{RunEnd}
-use Rattle.canonical_machine.specs.declared.run_end.RunEnd.TheVariants.{Trapped, Fuel}
-use Rattle.canonical_machine.specs.Traps.{core_name}
-use Rattle.canonical_machine.specs.Control.{Control, HostedState, Going, Nested, BeforeLeaving, Quiet, Leaves, Doomed}
-use Rattle.canonical_machine.specs.World.{Callee, Func, Task, World, first_world}
-use Rattle.canonical_machine.specs.Edits.{with_control}
-use Rattle.canonical_machine.specs.Reading.{acting, builtin_of, func_address, func_of}
-use Rattle.canonical_machine.specs.Turn.{Turn, Steps, Stuck, behind, given, silent}
-use Rattle.canonical_machine.specs.Returning.{finished, post_return, post_return_call}
-use Rattle.canonical_machine.specs.Run.{RunsFrom}
-use Rattle.canonical_machine.specs.Sound.{IsSound}
-use Rattle.canonical_machine.specs.Owners.{IsApart}
-use Rattle.canonical_machine.specs.Kept.{IsHosted, IsKeptBy}
+use Rattle.trace_labels.specs.declared.label.Label.{Label}
+use Rattle.trace_labels.specs.declared.label.Label.TheVariants as line
+use Rattle.trace_labels.specs.declared.trap.TrapName.{TrapName}
+use Rattle.trace_labels.specs.declared.trap.TrapName.TheVariants as trap
+use Rattle.world.specs.declared.run_end.RunEnd.{RunEnd}
+use Rattle.world.specs.declared.run_end.RunEnd.TheVariants.{Trapped, Fuel}
+use Rattle.world.specs.Traps.{core_name}
+use Rattle.world.specs.Control.{Control, HostedState, Going, Nested, BeforeLeaving, Quiet, Leaves, Doomed}
+use Rattle.world.specs.World.{Callee, Func, Task, World, first_world}
+use Rattle.world.specs.Edits.{with_control}
+use Rattle.world.specs.Reading.{acting, builtin_of, func_address, func_of}
+use Rattle.world.specs.Turn.{Turn, Steps, Stuck, behind, given, silent}
+use Rattle.world.specs.Returning.{finished, post_return, post_return_call}
+use Rattle.world.specs.Run.{RunsFrom}
+use Rattle.world.specs.Sound.{IsSound}
+use Rattle.world.specs.Owners.{IsApart}
+use Rattle.world.specs.Kept.{IsHosted, IsKeptBy}
 use Rattle.world.specs.declared.state.RunState.{RunState}
 use Rattle.world.specs.Parts.{LeadsTo, Meets, with_room, WithUsed, IsSafe}
 use Rattle.world.specs.Stacks.{PostReturnLeads}

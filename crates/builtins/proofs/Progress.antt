@@ -12,9 +12,9 @@ use Rattle.comp_graph.specs.declared.graph.CanonFunc.{CanonFunc}
 use Rattle.comp_graph.specs.declared.graph.CanonFunc.TheVariants as canon_func
 use Rattle.comp_graph.specs.Graph.{Graph}
 use Rattle.script_reader.specs.Script.{Script}
-use Rattle.canonical_machine.specs.declared.run_end.RunEnd.{RunEnd}
-use Rattle.canonical_machine.specs.Reading.{is_in, lower_of, lower_at, lifted_of}
-use Rattle.canonical_machine.proofs.Descents.{unused, with_one, one_less}
+use Rattle.world.specs.declared.run_end.RunEnd.{RunEnd}
+use Rattle.world.specs.Reading.{is_in, lower_of, lower_at, lifted_of}
+use Rattle.world.proofs.Descents.{unused, with_one, one_less}
 use Rattle.world.specs.declared.state.Waiter.{Waiter}
 use Rattle.world.specs.declared.state.RunState.{RunState}
 use Rattle.world.specs.Seen.{waiters, IsAtReturn}

@@ -5,18 +5,18 @@ use Rattle.std.specs.Option.{IfSome, option_map}
 use Rattle.std.proofs.lemmas.Option.{slice_get_within}
 use Rattle.ca_types.specs.declared.value.Value.{Value}
 use Rattle.ca_types.specs.Fits.{fits}
-use Rattle.canonical_machine.proofs.Ranged.{fit as fit_of}
+use Rattle.lowering_laws.proofs.Ranged.{fit as fit_of}
 use Rattle.value_lower.specs.Plan.{Plan}
 use Rattle.copy_engine.specs.declared.nested.HostCall.{HostCall}
 use Rattle.copy_engine.specs.declared.store_room.LowerOptions.{LowerOptions}
-use Rattle.trace_show.specs.declared.trap.TrapName.TheVariants as trap
-use Rattle.canonical_machine.specs.Passing.{result_lifted, result_plan}
-use Rattle.canonical_machine.specs.Turn as turns
-use Rattle.canonical_machine.specs.Lowering as machine
-use Rattle.canonical_machine.specs.Run.{RunsFrom}
-use Rattle.canonical_machine.specs.Sound.{AreBytes}
-use Rattle.canonical_machine.proofs.Words.{result_is}
-use Rattle.canonical_machine.proofs.Staying.{memory_bytes}
+use Rattle.trace_labels.specs.declared.trap.TrapName.TheVariants as trap
+use Rattle.world.specs.Passing.{result_lifted, result_plan}
+use Rattle.world.specs.Turn as turns
+use Rattle.world.specs.Lowering as machine
+use Rattle.world.specs.Run.{RunsFrom}
+use Rattle.lowering_laws.specs.Values.{AreBytes}
+use Rattle.world.proofs.Words.{result_is}
+use Rattle.world.proofs.Staying.{memory_bytes}
 use Rattle.builtins.specs.Lowering.{IsAtLowering, LoweredLeads}
 use Rattle.builtins.specs.declared.lower_values.Lowered.TheVariants as came
 use Rattle.builtins.specs.Rooms.{IsMemory}
@@ -38,32 +38,33 @@ use Rattle.comp_graph.specs.Needs.{lifted_type, lowered_type}
 use Rattle.comp_graph.specs.Graph.{Graph, Lifted}
 use Rattle.script_reader.specs.Script.{Script}
 use Rattle.script_reader.proofs.Cases.{some_inj}
-use Rattle.trace_show.specs.declared.label.Label.{Label}
-use Rattle.trace_show.specs.declared.label.Label.TheVariants as line
-use Rattle.trace_show.specs.declared.trap.TrapName.{TrapName}
-use Rattle.trace_show.specs.declared.typed.TypedValue.{TypedValue}
-use Rattle.canonical_machine.specs.declared.run_end.RunEnd.{RunEnd}
-use Rattle.canonical_machine.specs.declared.run_end.RunEnd.TheVariants.{Trapped, Fuel}
-use Rattle.canonical_machine.specs.Traps.{lift_name}
-use Rattle.canonical_machine.specs.Control.{Control, Free, Runs, Doomed, Lowers, Lowering, Resolves}
-use Rattle.canonical_machine.specs.World.{Nobody, Init, Host, Guest, Subtask, Callee, Func, Caller, Unresolved, Returned, TaskState, Acting, Task, World, first_world}
-use Rattle.canonical_machine.specs.Edits.{with_control, changed_at, resolved, unstacked, result_kept, caller_changed}
-use Rattle.canonical_machine.specs.Reading.{acting, func_of, memory_of, realloc_of, bytes_of, lower_at, lifted_of, builtin_of}
-use Rattle.canonical_machine.specs.Turn.{Turn, Steps, behind, given, charged}
-use Rattle.canonical_machine.specs.Calling.{called_by}
-use Rattle.canonical_machine.specs.CoreSteps.{costs, stack_ended, moved, running_turn}
-use Rattle.canonical_machine.specs.Returning.{typed_result, result_of, result_lowering, finished, passed_on, returned, returning_turn}
-use Rattle.canonical_machine.specs.Next.{next, next_by}
-use Rattle.canonical_machine.specs.Sound.{IsSound}
-use Rattle.canonical_machine.specs.Owners.{IsApart}
-use Rattle.canonical_machine.specs.Plain.{HoldsNone, PassesNone, IsPlain}
-use Rattle.canonical_machine.specs.Tasks.{IsSoFar, OneStack, AreWaiting, IsBegun, IsRunning, IsChain}
-use Rattle.canonical_machine.specs.Kept.{HasHosts, params_by, HasBytesAlone, WereMade, AreMadeBy, AreTyped, AllWait, IsKeptBy, core_results}
-use Rattle.canonical_machine.specs.KeptLaws.{IsKept}
-use Rattle.canonical_machine.proofs.Changed.{changed_length, changed_there, changed_other}
-use Rattle.canonical_machine.proofs.Ordered.{called_at}
-use Rattle.canonical_machine.proofs.Graphs as graphs
-use Rattle.canonical_machine.proofs.Graphs.{IsUsed, same_func, callee_there}
+use Rattle.trace_labels.specs.declared.label.Label.{Label}
+use Rattle.trace_labels.specs.declared.label.Label.TheVariants as line
+use Rattle.trace_labels.specs.declared.trap.TrapName.{TrapName}
+use Rattle.trace_labels.specs.declared.typed.TypedValue.{TypedValue}
+use Rattle.world.specs.declared.run_end.RunEnd.{RunEnd}
+use Rattle.world.specs.declared.run_end.RunEnd.TheVariants.{Trapped, Fuel}
+use Rattle.world.specs.Traps.{lift_name}
+use Rattle.world.specs.Control.{Control, Free, Runs, Doomed, Lowers, Lowering, Resolves}
+use Rattle.world.specs.World.{Nobody, Init, Host, Guest, Subtask, Callee, Func, Caller, Unresolved, Returned, TaskState, Acting, Task, World, first_world}
+use Rattle.world.specs.Edits.{with_control, changed_at, resolved, unstacked, result_kept, caller_changed}
+use Rattle.world.specs.Reading.{acting, func_of, memory_of, realloc_of, bytes_of, lower_at, lifted_of, builtin_of}
+use Rattle.world.specs.Turn.{Turn, Steps, behind, given, charged}
+use Rattle.world.specs.Calling.{called_by}
+use Rattle.world.specs.CoreSteps.{costs, stack_ended, moved, running_turn}
+use Rattle.world.specs.Returning.{typed_result, result_of, result_lowering, finished, passed_on, returned, returning_turn}
+use Rattle.world.specs.Next.{next, next_by}
+use Rattle.world.specs.Sound.{IsSound}
+use Rattle.world.specs.Owners.{IsApart}
+use Rattle.world.specs.Plain.{HoldsNone, PassesNone, IsPlain}
+use Rattle.world.specs.Tasks.{IsSoFar, OneStack, AreWaiting, IsBegun, IsRunning, IsChain}
+use Rattle.lowering_laws.specs.StoreBytes.{HasBytesAlone}
+use Rattle.world.specs.Kept.{HasHosts, params_by, WereMade, AreMadeBy, AreTyped, AllWait, IsKeptBy, core_results}
+use Rattle.world.specs.KeptLaws.{IsKept}
+use Rattle.world.proofs.Changed.{changed_length, changed_there, changed_other}
+use Rattle.world.proofs.Ordered.{called_at}
+use Rattle.world.proofs.Graphs as graphs
+use Rattle.world.proofs.Graphs.{IsUsed, same_func, callee_there}
 use Rattle.world.specs.declared.called.CalledFunc.{CalledFunc}
 use Rattle.world.specs.declared.state.RunState.{RunState}
 use Rattle.world.specs.declared.state.Waiter.{Waiter}

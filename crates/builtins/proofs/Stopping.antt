@@ -2,8 +2,8 @@
 use Rattle.std.proofs.Common.{◌≡◌, ℕ, List, sym, subst, inl, inr}
 use Rattle.comp_graph.specs.Graph.{Graph}
 use Rattle.script_reader.specs.Script.{Script}
-use Rattle.trace_show.specs.declared.label.Label.{Label}
-use Rattle.canonical_machine.specs.declared.run_end.RunEnd.{RunEnd}
+use Rattle.trace_labels.specs.declared.label.Label.{Label}
+use Rattle.world.specs.declared.run_end.RunEnd.{RunEnd}
 use Rattle.world.specs.declared.running.Stop.{Stop}
 use Rattle.world.specs.declared.running.Stop.TheVariants as stop
 use Rattle.world.specs.declared.state.RunState.{RunState}

@@ -4,10 +4,10 @@ use Rattle.std.specs.Prelude.{IfOk}
 use Rattle.wasm_store.specs.Stack.{Stack}
 use Rattle.wasm_store.proofs.Lists.{all_append}
 use Rattle.comp_graph.specs.Graph.{Graph}
-use Rattle.trace_show.specs.declared.label.Label.{Label}
-use Rattle.trace_show.specs.declared.label.Label.TheVariants as line
-use Rattle.trace_show.specs.declared.typed.TypedValue.{TypedValue}
-use Rattle.canonical_machine.specs.declared.run_end.RunEnd.{RunEnd}
+use Rattle.trace_labels.specs.declared.label.Label.{Label}
+use Rattle.trace_labels.specs.declared.label.Label.TheVariants as line
+use Rattle.trace_labels.specs.declared.typed.TypedValue.{TypedValue}
+use Rattle.world.specs.declared.run_end.RunEnd.{RunEnd}
 use Rattle.world.specs.declared.state.RunState.{RunState}
 use Rattle.builtins.specs.declared.next_task.Leaving.{Leaving}
 use Rattle.builtins.specs.declared.next_task.Leaving.TheVariants as leaving

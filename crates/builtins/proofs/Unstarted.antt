@@ -6,17 +6,17 @@ use Rattle.wasm_store.specs.Stack.{Stack}
 use Rattle.comp_graph.specs.declared.graph.CanonFunc.{CanonFunc}
 use Rattle.comp_graph.specs.Graph.{Graph}
 use Rattle.script_reader.specs.Script.{Script}
-use Rattle.trace_show.specs.declared.builtin.Builtin.{Builtin}
-use Rattle.trace_show.specs.declared.label.Label.{Label}
-use Rattle.trace_show.specs.declared.label.Label.TheVariants as line
-use Rattle.trace_show.specs.declared.trap.TrapName.TheVariants as trap
-use Rattle.canonical_machine.specs.declared.run_end.RunEnd.{RunEnd}
-use Rattle.canonical_machine.specs.declared.run_end.RunEnd.TheVariants.{Trapped}
-use Rattle.canonical_machine.specs.World.{Task, World, first_world}
-use Rattle.canonical_machine.specs.Reading.{builtin_of}
-use Rattle.canonical_machine.specs.Tasks.{IsAt}
-use Rattle.canonical_machine.specs.Turn.{Ends}
-use Rattle.canonical_machine.specs.Next.{next}
+use Rattle.trace_labels.specs.declared.builtin.Builtin.{Builtin}
+use Rattle.trace_labels.specs.declared.label.Label.{Label}
+use Rattle.trace_labels.specs.declared.label.Label.TheVariants as line
+use Rattle.trace_labels.specs.declared.trap.TrapName.TheVariants as trap
+use Rattle.world.specs.declared.run_end.RunEnd.{RunEnd}
+use Rattle.world.specs.declared.run_end.RunEnd.TheVariants.{Trapped}
+use Rattle.world.specs.World.{Task, World, first_world}
+use Rattle.world.specs.Reading.{builtin_of}
+use Rattle.world.specs.Tasks.{IsAt}
+use Rattle.world.specs.Turn.{Ends}
+use Rattle.world.specs.Next.{next}
 use Rattle.world.specs.declared.called.CalledFunc.{CalledFunc}
 use Rattle.world.specs.declared.state.RunState.{RunState}
 use Rattle.world.specs.Called.{lifted_by, IsRunBy}

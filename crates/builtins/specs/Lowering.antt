@@ -19,12 +19,12 @@ use Rattle.copy_engine.specs.Nested.{RoomState, rooms_with}
 use Rattle.copy_engine.specs.declared.store_room.LowerOptions.{LowerOptions}
 use Rattle.comp_graph.specs.Graph.{Graph}
 use Rattle.script_reader.specs.Script.{Script}
-use Rattle.canonical_machine.specs.declared.run_end.RunEnd.TheVariants.{Fuel}
-use Rattle.canonical_machine.specs.Control.{Control, Free, Lowering, Lowers, Doomed}
-use Rattle.canonical_machine.specs.World.{World}
-use Rattle.canonical_machine.specs.Traps.{core_name, lower_name}
-use Rattle.canonical_machine.specs.Lowering as machine
-use Rattle.canonical_machine.specs.Run.{RunsFrom}
+use Rattle.world.specs.declared.run_end.RunEnd.TheVariants.{Fuel}
+use Rattle.world.specs.Control.{Control, Free, Lowering, Lowers, Doomed}
+use Rattle.world.specs.World.{World}
+use Rattle.world.specs.Traps.{core_name, lower_name}
+use Rattle.world.specs.Lowering as machine
+use Rattle.world.specs.Run.{RunsFrom}
 use Rattle.builtins.specs.declared.lower_values.Target.{Target}
 use Rattle.builtins.specs.declared.lower_values.Target.TheVariants as target
 use Rattle.builtins.specs.declared.lower_values.Lowered.{Lowered}

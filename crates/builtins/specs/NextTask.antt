@@ -8,9 +8,9 @@ use Rattle.wasm_store.specs.Step.{resume}
 use Rattle.comp_graph.specs.declared.graph.Lower.{Lower}
 use Rattle.comp_graph.specs.Graph.{Graph}
 use Rattle.script_reader.specs.Script.{Script}
-use Rattle.canonical_machine.specs.declared.run_end.RunEnd.{RunEnd}
-use Rattle.canonical_machine.specs.declared.run_end.RunEnd.TheVariants.{Trapped, Fuel}
-use Rattle.canonical_machine.specs.Reading.{is_in, lower_at, lifted_of}
+use Rattle.world.specs.declared.run_end.RunEnd.{RunEnd}
+use Rattle.world.specs.declared.run_end.RunEnd.TheVariants.{Trapped, Fuel}
+use Rattle.world.specs.Reading.{is_in, lower_at, lifted_of}
 use Rattle.world.specs.declared.state.Waiter.{Waiter}
 use Rattle.world.specs.declared.state.RunState.{RunState}
 use Rattle.world.specs.Seen.{waiters, IsAtFree, IsAtArrival, IsAtReturn, EndsBy}

@@ -3,8 +3,8 @@
 use Rattle.std.specs.Prelude.{◌≡◌}
 use Rattle.comp_graph.specs.Graph.{Graph}
 use Rattle.script_reader.specs.Script.{Script}
-use Rattle.canonical_machine.specs.World.{World}
-use Rattle.canonical_machine.specs.Run.{Runs}
+use Rattle.world.specs.World.{World}
+use Rattle.world.specs.Run.{Runs}
 use Rattle.builtins.specs.declared.script_run.Run.{Run}
 
 pub record IsRunOf (g : Graph) (s : Script) (run : Run) : Type 0 where

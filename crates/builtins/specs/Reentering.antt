@@ -3,7 +3,7 @@
 use Rattle.std.specs.Prelude.{ℕ, Bool, nat_eq, ◌||◌, List, [], ◌∷◌}
 use Rattle.std.specs.Option.{option_map}
 use Rattle.comp_graph.specs.Graph.{Graph}
-use Rattle.canonical_machine.specs.Reading.{lower_at, lifted_of, is_in}
+use Rattle.world.specs.Reading.{lower_at, lifted_of, is_in}
 use Rattle.world.specs.declared.state.Waiter.{Waiter}
 
 -- whether the core function of the Canonical ABI of a number calls a function of an instance

@@ -13,12 +13,12 @@ use Rattle.copy_engine.specs.Nested.{RoomState, rooms_with}
 use Rattle.copy_engine.specs.Turns.{Counts}
 use Rattle.comp_graph.specs.Graph.{Graph}
 use Rattle.script_reader.specs.Script.{Script}
-use Rattle.canonical_machine.specs.declared.run_end.RunEnd.TheVariants.{Fuel}
-use Rattle.canonical_machine.specs.Traps.{core_name, lower_name}
-use Rattle.canonical_machine.specs.Control.{Control, Free, Lowering, Lowers, Doomed}
-use Rattle.canonical_machine.specs.World.{World}
-use Rattle.canonical_machine.specs.Lowering.{lowered}
-use Rattle.canonical_machine.specs.Run.{RunsFrom}
+use Rattle.world.specs.declared.run_end.RunEnd.TheVariants.{Fuel}
+use Rattle.world.specs.Traps.{core_name, lower_name}
+use Rattle.world.specs.Control.{Control, Free, Lowering, Lowers, Doomed}
+use Rattle.world.specs.World.{World}
+use Rattle.world.specs.Lowering.{lowered}
+use Rattle.world.specs.Run.{RunsFrom}
 use Rattle.world.specs.Parts.{LeadsTo, Meets, with_room, WithUsed, IsSafe}
 use Rattle.world.specs.Stacks.{Refused}
 

@@ -8,13 +8,13 @@ use Rattle.wasm_store.specs.Stack.{Stack}
 use Rattle.wasm_store.specs.Step.{start}
 use Rattle.comp_graph.specs.Graph.{Graph, Lifted}
 use Rattle.script_reader.specs.Script.{Script}
-use Rattle.trace_show.specs.declared.builtin.Builtin.{Builtin}
-use Rattle.trace_show.specs.declared.label.Label.{Label}
-use Rattle.trace_show.specs.declared.label.Label.TheVariants as line
-use Rattle.canonical_machine.specs.declared.run_end.RunEnd.{RunEnd}
-use Rattle.canonical_machine.specs.World.{Func, Task}
-use Rattle.canonical_machine.specs.Reading.{func_address}
-use Rattle.canonical_machine.specs.Tasks.{IsAt}
+use Rattle.trace_labels.specs.declared.builtin.Builtin.{Builtin}
+use Rattle.trace_labels.specs.declared.label.Label.{Label}
+use Rattle.trace_labels.specs.declared.label.Label.TheVariants as line
+use Rattle.world.specs.declared.run_end.RunEnd.{RunEnd}
+use Rattle.world.specs.World.{Func, Task}
+use Rattle.world.specs.Reading.{func_address}
+use Rattle.world.specs.Tasks.{IsAt}
 use Rattle.world.specs.declared.state.RunState.{RunState}
 use Rattle.world.specs.Seen.{IsCalled, waiters, EndsBy}
 use Rattle.builtins.specs.declared.next_task.Leaving.{Leaving}

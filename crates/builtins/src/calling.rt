@@ -3,25 +3,24 @@
 ghost use Rattle.std.specs.Prelude.{◌≡◌, ◌<◌, ◌≤◌, ◌+◌, ◌-◌, ◌^◌, ℕ, length, reverse, take, Some, IfOk, MatchOption, MatchResult};
 ghost use Rattle.std.specs.List.{slice_get};
 ghost use Rattle.comp_graph.specs.declared.graph.Lower.{Lower};
-ghost use Rattle.canonical_machine.specs.Control.{Free};
-ghost use Rattle.canonical_machine.specs.Edits.{with_control};
-ghost use Rattle.canonical_machine.specs.Reading.{lower_at, is_reentrant};
-ghost use Rattle.canonical_machine.specs.Sound.{IsSound};
-ghost use Rattle.canonical_machine.specs.Owners.{IsApart};
+ghost use Rattle.world.specs.Control.{Free};
+ghost use Rattle.world.specs.Edits.{with_control};
+ghost use Rattle.world.specs.Reading.{lower_at, is_reentrant};
+ghost use Rattle.world.specs.Sound.{IsSound};
+ghost use Rattle.world.specs.Owners.{IsApart};
 ghost use Rattle.world.specs.Seen.{IsAtCall, IsAtArrival, EndsBy};
 ghost use Rattle.builtins.specs.NextTask.{BeginsCall, IsTrapOrFuel};
 ghost use Rattle.builtins.specs.Reentering.{calls_into, reenters};
 ghost use Rattle.builtins.specs.Telling.{AddsCall};
 
 use ca_base::{Memory, Seq};
-use canonical_machine::RunEnd;
 use comp_graph::{CanonFunc, Graph};
 use script_reader::Script;
 use std::alloc::Global;
-use trace_show::{Label, TrapName};
+use trace_labels::{Label, TrapName};
 use wasm_execution::Words;
 use world::{
-    NamedGraph, RunState, Waiter, builtin_of, called_export, canon_at, last_call, lower_of,
+    NamedGraph, RunEnd, RunState, Waiter, builtin_of, called_export, canon_at, last_call, lower_of,
 };
 
 /// The component instance of the function that the core function of the Canonical ABI of a number calls.

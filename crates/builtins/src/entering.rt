@@ -8,10 +8,10 @@ ghost use Rattle.ca_types.specs.Flat.{flat};
 ghost use Rattle.ca_types.specs.Ends.{has_end};
 ghost use Rattle.laid_types.specs.Handles.{has_handle};
 ghost use Rattle.comp_graph.specs.Passed.{ArePassed};
-ghost use Rattle.canonical_machine.specs.Passing.{arguments_plan, params_type};
-ghost use Rattle.canonical_machine.specs.Plain.{IsPlain};
-ghost use Rattle.canonical_machine.specs.Sound.{IsSound};
-ghost use Rattle.canonical_machine.specs.Owners.{IsApart};
+ghost use Rattle.world.specs.Passing.{arguments_plan, params_type};
+ghost use Rattle.world.specs.Plain.{IsPlain};
+ghost use Rattle.world.specs.Sound.{IsSound};
+ghost use Rattle.world.specs.Owners.{IsApart};
 ghost use Rattle.world.specs.Addresses.{HasOptions};
 ghost use Rattle.world.specs.Called.{lifted_by};
 ghost use Rattle.world.specs.Passed.{IsAtEntry};
@@ -25,15 +25,15 @@ use crate::lower_options::lower_options;
 use crate::lower_values::{Lowered, Target, lower};
 use ca_base::{Memory, MemoryOr};
 use ca_types::Value;
-use canonical_machine::RunEnd;
 use copy_engine::HostCall;
 use laid_types::LaidType;
 use script_reader::Script;
 use std::alloc::Global;
-use trace_show::Label;
+use trace_labels::Label;
 use wasm_execution::{Running, start};
 use world::{
-    CalledFunc, NamedGraph, RunState, arguments, called_func, func_address, lift_name, refuse,
+    CalledFunc, NamedGraph, RunEnd, RunState, arguments, called_func, func_address, lift_name,
+    refuse,
 };
 
 /// A task enters, by its line, and its arguments are lifted and passed. It answers the stack on which its core function starts, or how the

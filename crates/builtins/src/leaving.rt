@@ -1,9 +1,9 @@
 //! Tasks that return and exit, and control that goes back to the tasks that called them.
 
 ghost use Rattle.std.specs.Prelude.{ℕ, List, [], ◌∷◌, IfOk};
-ghost use Rattle.canonical_machine.specs.Sound.{IsSound};
-ghost use Rattle.canonical_machine.specs.Owners.{IsApart};
-ghost use Rattle.canonical_machine.specs.Plain.{IsPlain};
+ghost use Rattle.world.specs.Sound.{IsSound};
+ghost use Rattle.world.specs.Owners.{IsApart};
+ghost use Rattle.world.specs.Plain.{IsPlain};
 ghost use Rattle.world.specs.Points.{IsAtExit, IsAtBack, HasExited};
 ghost use Rattle.world.specs.Seen.{IsAtReturn, IsAtStack};
 ghost use Rattle.world.specs.Changes.{Spends};
@@ -15,7 +15,7 @@ use crate::returning::resolve;
 use ca_base::Memory;
 use script_reader::Script;
 use std::alloc::Global;
-use trace_show::Label;
+use trace_labels::Label;
 use wasm_execution::{Running, Words};
 use world::{NamedGraph, RunState, Waiter};
 

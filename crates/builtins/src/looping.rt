@@ -1,9 +1,9 @@
 //! A call of the script, from the arrival of its task to the exit: tasks call one another, and control comes back to them.
 
 ghost use Rattle.std.specs.Prelude.{◌≡◌, ◌≤◌, IfOk, MatchResult, MatchOption};
-ghost use Rattle.canonical_machine.specs.Sound.{IsSound};
-ghost use Rattle.canonical_machine.specs.Owners.{IsApart};
-ghost use Rattle.canonical_machine.specs.Plain.{IsPlain};
+ghost use Rattle.world.specs.Sound.{IsSound};
+ghost use Rattle.world.specs.Owners.{IsApart};
+ghost use Rattle.world.specs.Plain.{IsPlain};
 ghost use Rattle.world.specs.Seen.{IsAtFree, IsAtArrival, IsAtStack, IsAtReturn, EndsBy};
 ghost use Rattle.world.specs.Starting.{GoesOrEnds};
 ghost use Rattle.builtins.specs.NextTask.{AreHeld, GoesOnAt, IsTrapOrFuel, MayStop, NextMayStop, WentOn, Descends, Ascends, IsReturned, HasAscended};
@@ -13,11 +13,10 @@ use crate::entering::enter;
 use crate::leaving::{finish, go_back};
 use crate::next_task::{Leaving, Onward};
 use ca_base::Memory;
-use canonical_machine::RunEnd;
 use script_reader::Script;
 use std::alloc::Global;
 use wasm_execution::{Running, Words};
-use world::{NamedGraph, RunState, Stop, run_stack, take_item};
+use world::{NamedGraph, RunEnd, RunState, Stop, run_stack, take_item};
 
 /// Runs the items of the script that are left, one after the other, and answers how the run ends.
 pub(crate) fn run_items(

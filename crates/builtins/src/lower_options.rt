@@ -1,7 +1,7 @@
 //! What options say of a lowering over a store.
 
 ghost use Rattle.std.specs.Prelude.{◌≡◌};
-ghost use Rattle.canonical_machine.specs.Reading.{memory_of, realloc_of};
+ghost use Rattle.world.specs.Reading.{memory_of, realloc_of};
 ghost use Rattle.world.specs.Addresses.{HasOptions};
 ghost use Rattle.builtins.specs.Rooms.{IsMemory};
 

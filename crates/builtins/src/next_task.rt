@@ -1,7 +1,7 @@
 //! Which task is next.
 
-use canonical_machine::RunEnd;
 use wasm_execution::Words;
+use world::RunEnd;
 
 /// What is next when a task has exited.
 #[derive(Drop)]

@@ -6,13 +6,13 @@ ghost use Rattle.ca_types.specs.declared.value.Value.{Value};
 ghost use Rattle.ca_types.specs.Flat.{flat};
 ghost use Rattle.wasm_numbers.specs.Types.{AreWords};
 ghost use Rattle.comp_graph.specs.Needs.{lowered_type};
-ghost use Rattle.canonical_machine.specs.Passing.{last_of, result_plan};
-ghost use Rattle.canonical_machine.specs.Reading.{memory_of, bytes_of};
-ghost use Rattle.canonical_machine.specs.Returning.{result_of};
-ghost use Rattle.canonical_machine.specs.World.{Task};
-ghost use Rattle.canonical_machine.specs.Sound.{IsSound};
-ghost use Rattle.canonical_machine.specs.Owners.{IsApart};
-ghost use Rattle.canonical_machine.specs.Plain.{IsPlain};
+ghost use Rattle.world.specs.Passing.{last_of, result_plan};
+ghost use Rattle.world.specs.Reading.{memory_of, bytes_of};
+ghost use Rattle.world.specs.Returning.{result_of};
+ghost use Rattle.world.specs.World.{Task};
+ghost use Rattle.world.specs.Sound.{IsSound};
+ghost use Rattle.world.specs.Owners.{IsApart};
+ghost use Rattle.world.specs.Plain.{IsPlain};
 ghost use Rattle.world.specs.Called.{lifted_by, IsRunBy};
 ghost use Rattle.builtins.specs.Lowering.{plan_to};
 ghost use Rattle.builtins.specs.NextTask.{IsTrapOrFuel};
@@ -25,14 +25,13 @@ use crate::calling::innermost;
 use crate::lower_options::lower_options;
 use crate::lower_values::{Lowered, Target, lower};
 use ca_base::Memory;
-use canonical_machine::RunEnd;
 use copy_engine::HostCall;
 use laid_types::LaidType;
 use script_reader::Script;
 use std::alloc::Global;
-use trace_show::{Label, TypedValue};
+use trace_labels::{Label, TypedValue};
 use wasm_execution::Words;
-use world::{CalledFunc, NamedGraph, RunState, canon_at, lower_of, refuse};
+use world::{CalledFunc, NamedGraph, RunEnd, RunState, canon_at, lower_of, refuse};
 
 /// The acting task resolves to this result by its line, and the result is lowered into the innermost task that waits: as core values,
 /// which are kept for it, or at the place that is the last of its words. It answers the core values, or how the run ends.

@@ -1,8 +1,8 @@
 //! Post-returns.
 
 ghost use Rattle.std.specs.Prelude.{ℕ, List, IfOk};
-ghost use Rattle.canonical_machine.specs.Sound.{IsSound};
-ghost use Rattle.canonical_machine.specs.Owners.{IsApart};
+ghost use Rattle.world.specs.Sound.{IsSound};
+ghost use Rattle.world.specs.Owners.{IsApart};
 ghost use Rattle.world.specs.Called.{lifted_by};
 ghost use Rattle.world.specs.Points.{IsAtFinish, IsAtPostReturn, IsAtExit};
 ghost use Rattle.world.specs.Starting.{GoesOrEnds};
@@ -10,12 +10,11 @@ ghost use Rattle.builtins.specs.NextTask.{MayStop, SpendsOrEnds};
 ghost use Rattle.builtins.specs.Telling.{AddsOnly, IsOfReturn};
 
 use ca_base::Memory;
-use canonical_machine::RunEnd;
 use comp_graph::Graph;
 use script_reader::Script;
 use std::alloc::Global;
 use wasm_execution::{Outcome, Running, run, start};
-use world::{CalledFunc, RunState, core_name, func_address, refuse};
+use world::{CalledFunc, RunEnd, RunState, core_name, func_address, refuse};
 
 /// Runs the post-return of the function that the acting task runs, if it has one, with the words with which its core function ended. It
 /// answers how the run ends, if it does so there; else the task is to exit.

@@ -1,12 +1,12 @@
 //! Tasks whose core function has ended.
 
 ghost use Rattle.std.specs.Prelude.{◌≡◌, [], IfOk, MatchResult, Ok};
-ghost use Rattle.canonical_machine.specs.Sound.{IsSound};
-ghost use Rattle.canonical_machine.specs.Owners.{IsApart};
-ghost use Rattle.canonical_machine.specs.Plain.{IsPlain};
-ghost use Rattle.canonical_machine.specs.Reading.{memory_of, bytes_of};
-ghost use Rattle.canonical_machine.specs.Returning.{result_of};
-ghost use Rattle.canonical_machine.specs.World.{Task};
+ghost use Rattle.world.specs.Sound.{IsSound};
+ghost use Rattle.world.specs.Owners.{IsApart};
+ghost use Rattle.world.specs.Plain.{IsPlain};
+ghost use Rattle.world.specs.Reading.{memory_of, bytes_of};
+ghost use Rattle.world.specs.Returning.{result_of};
+ghost use Rattle.world.specs.World.{Task};
 ghost use Rattle.world.specs.Called.{lifted_by, IsRunBy};
 ghost use Rattle.world.specs.Seen.{IsCalled, waiters, IsAtReturn, EndsBy};
 ghost use Rattle.world.specs.Points.{IsAtFinish, IsAtExit};
@@ -18,12 +18,11 @@ ghost use Rattle.builtins.specs.Telling.{AddsOnly, IsOfReturn};
 use crate::passing::lower_result;
 use crate::post_returning::post_return;
 use ca_base::{Memory, MemoryOr, Seq};
-use canonical_machine::RunEnd;
 use script_reader::Script;
 use std::alloc::Global;
-use trace_show::{Label, TypedValue};
+use trace_labels::{Label, TypedValue};
 use wasm_execution::Words;
-use world::{CalledFunc, NamedGraph, RunState, called_func, lift_name, lifted_result};
+use world::{CalledFunc, NamedGraph, RunEnd, RunState, called_func, lift_name, lifted_result};
 
 /// What follows where the core function of the acting task has ended with these words, up to its exit. It answers the words for the task
 /// that waits for it, none where the script called, or how the run ends.

@@ -1,21 +1,20 @@
 //! Runs of scripts over components that call one another synchronously.
 
 ghost use Rattle.std.specs.Prelude.{◌≡◌, IfOk};
-ghost use Rattle.canonical_machine.specs.Sound.{IsSound};
-ghost use Rattle.canonical_machine.specs.Owners.{IsApart};
-ghost use Rattle.canonical_machine.specs.Plain.{IsPlain};
+ghost use Rattle.world.specs.Sound.{IsSound};
+ghost use Rattle.world.specs.Owners.{IsApart};
+ghost use Rattle.world.specs.Plain.{IsPlain};
 ghost use Rattle.world.specs.Seen.{IsAtPlan, EndsBy};
 ghost use Rattle.builtins.specs.Ran.{IsRunOf};
 
 use crate::looping::run_items;
 use ca_base::{Memory, Seq};
-use canonical_machine::RunEnd;
 use comp_graph::Graph;
 use script_reader::Script;
 use std::alloc::Global;
-use trace_show::Label;
+use trace_labels::Label;
 use wasm_store::Store;
-use world::{NamedGraph, RunState, canon_func_types, give_up_all, instantiate};
+use world::{NamedGraph, RunEnd, RunState, canon_func_types, give_up_all, instantiate};
 
 /// A run, from its first line to its end (Component Model, Concurrency.md, "Summary").
 #[derive(Drop)]

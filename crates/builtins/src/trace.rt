@@ -2,13 +2,14 @@
 
 ghost use Rattle.std.specs.Prelude.{◌≡◌, ◌++◌, IfOk, OnOk};
 ghost use Rattle.trace_show.specs.LabelText.{label_text, trace_text};
-ghost use Rattle.canonical_machine.specs.Run.{end_label, trace_of};
+ghost use Rattle.world.specs.Run.{end_label, trace_of};
 
 use crate::script_run::Run;
 use ca_base::{Bytes, Memory, Seq, Text, push_all};
-use canonical_machine::RunEnd;
 use std::alloc::Global;
-use trace_show::{Label, label_text};
+use trace_labels::Label;
+use trace_show::label_text;
+use world::RunEnd;
 
 /// Labels, a line for each.
 struct Lines;

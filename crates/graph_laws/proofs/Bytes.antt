@@ -5,7 +5,7 @@ use Rattle.ca_base.specs.Span.{Span, window}
 use Rattle.ca_base.specs.Grammar.{Grammar, Give, Refuse, Here, Left, Next, Byte, Take, Sized, Then, Choose, times, Matches}
 use Rattle.ca_base.specs.Items.{NumberReasons, Reasons, u32, placed, sized}
 use Rattle.ca_base.specs.declared.placed.Placed.{Placed}
-use Rattle.canonical_machine.specs.Sound.{AreBytes}
+use Rattle.lowering_laws.specs.Values.{AreBytes}
 
 -- a byte, and the bytes of a slice
 abbrev pub IsByte : ℕ → Type 0

@@ -8,7 +8,7 @@ use Rattle.comp_tree.specs.declared.items.Item.TheVariants as item
 use Rattle.comp_tree.specs.declared.items.Item.TheViews.{the_lemmas}
 use Rattle.comp_tree.specs.declared.items.Component.{Component}
 use Rattle.comp_reader.specs.Binary.{core_module, type_item, IsComponent}
-use Rattle.canonical_machine.specs.Sound.{AreBytes}
+use Rattle.lowering_laws.specs.Values.{AreBytes}
 use Rattle.graph_laws.proofs.Bytes.{IsByte, GivesOn}
 use Rattle.graph_laws.proofs.ItemsRead.{AreShapes, component_has}
 use Rattle.graph_laws.proofs.TypesRead.{read_type_few}

@@ -24,8 +24,8 @@ use Rattle.link_spec.specs.Items.{StandsFor, type_given, given_for, wanted}
 use Rattle.link_spec.specs.Linked.{exports_at, Links, root_begun, callables, export_of, graph_of, IsLinked}
 use Rattle.link_spec.proofs.Holding.{all_weaker, all_mapped, all_flat, all_at, holds_at, if_weaker, if_mapped, if_found}
 use Rattle.comp_reader.specs.Binary.{IsComponent}
-use Rattle.canonical_machine.specs.Sound.{AreBytes}
-use Rattle.canonical_machine.specs.Synchronous.{called_type}
+use Rattle.lowering_laws.specs.Values.{AreBytes}
+use Rattle.world.specs.Synchronous.{called_type}
 use Rattle.graph_laws.specs.Laws.{ReadTypesAreCounted, ReadTypesAreLabelled}
 use Rattle.graph_laws.proofs.ComponentTypes.{types_have}
 use Rattle.graph_laws.specs.Counted.{is_labelled, HasLabelledTypes}

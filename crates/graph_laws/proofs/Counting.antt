@@ -23,8 +23,8 @@ use Rattle.value_lift.specs.Bytes.{is_scalar}
 use Rattle.value_lift.proofs.Layers.{by_layer}
 use Rattle.value_lower.specs.Lowering.{bits_of}
 use Rattle.value_reader.specs.Writable.{all_true, true_if_some, is_within, sound_step, is_sound}
-use Rattle.canonical_machine.specs.Values.{InRange, AllInRange, bool_in, s8_in, u8_in, s16_in, u16_in, s32_in, u32_in, s64_in, u64_in, char_in, string_in, list_in, record_in, flags_in, case_in, payload_in, none_in, more_in}
-use Rattle.canonical_machine.proofs.Fitted.{Layer, tests_in, passes, fits_is}
+use Rattle.lowering_laws.specs.Values.{InRange, AllInRange, bool_in, s8_in, u8_in, s16_in, u16_in, s32_in, u32_in, s64_in, u64_in, char_in, string_in, list_in, record_in, flags_in, case_in, payload_in, none_in, more_in}
+use Rattle.lowering_laws.proofs.Fitted.{Layer, tests_in, passes, fits_is}
 use Rattle.graph_laws.specs.Counted.{counted_step, counted_case, counted_field, is_counted}
 
 -- The test of a type by its outer layer.

@@ -14,7 +14,8 @@ use Rattle.wasm_reader.specs.Items.{target, byte_vec, data_segment, differs_from
 use Rattle.wasm_reader.specs.Code.{code_payload}
 use Rattle.wasm_reader.specs.Binary.{customs, payload, declarations, definitions, uses, contents, preamble, the_module}
 use Rattle.link_spec.proofs.Holding.{all_mapped}
-use Rattle.canonical_machine.specs.Sound.{AreBytes, HasBytes}
+use Rattle.lowering_laws.specs.Values.{AreBytes}
+use Rattle.lowering_laws.specs.StoreBytes.{HasBytes}
 use Rattle.graph_laws.proofs.Bytes.{IsByte, take_bytes, matches_bytes, ItemOf, GivesOn, choice_on, times_on, sized_on}
 
 -- A segment.

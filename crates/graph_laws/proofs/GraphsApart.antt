@@ -19,8 +19,9 @@ use Rattle.link_spec.specs.Standing.{StandsIn}
 use Rattle.link_spec.specs.Linked.{IsLinked, Begins, begun, exports_or, exports_at, with_instance, Links, leads_by_making, leads_by_instance, no_items, item_links, root_begun, Callable, funcs_behind, callables, lift_of, graph_of}
 use Rattle.link_spec.specs.Laws.{GraphsAreImported, LiftsAreThere, GraphsAreMade, ModulesStand}
 use Rattle.link_spec.proofs.Holding.{all_push, all_both, all_mapped, all_weaker}
-use Rattle.canonical_machine.specs.Sound.{HasBytes, Makes}
-use Rattle.canonical_machine.specs.Owners.{AreOptionsOf, IsLiftApart, IsCanonApart}
+use Rattle.lowering_laws.specs.StoreBytes.{HasBytes}
+use Rattle.world.specs.Sound.{Makes}
+use Rattle.world.specs.Owners.{AreOptionsOf, IsLiftApart, IsCanonApart}
 use Rattle.graph_laws.specs.Laws.{IsSoundModule, HasSoundModules, LinkedGraphsAreSound, PlansMakeInOrder, LinkedGraphsAreApart}
 use Rattle.graph_laws.proofs.Owning.{made_by, KeepsOwners, OwnsOptions, OwnsLift, OwnsCanon, IsOwnGraph, IsFuncApart, AreDefinedApart, AreSpacesApart, IsLinkingApart, IsReachedApart}
 use Rattle.graph_laws.proofs.Keeping.{kept_canons, kept_destructors, kept_lifts, kept_imports, kept_spaces, keeps_itself, keeps_through}

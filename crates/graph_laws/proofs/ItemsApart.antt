@@ -1,5 +1,5 @@
 -- What an item makes of a linking that is apart is apart, and each component instance keeps what it owns.
-use Rattle.std.proofs.Common.{◌≡◌, ◌∙◌, ℕ, suc, List, [], ◌∷◌, ◌++◌, length, map, refl, sym, ap, subst, arith, Option, Some, None}
+use Rattle.std.proofs.Common.{◌≡◌, ◌∙◌, ℕ, Bool, suc, List, [], ◌∷◌, ◌++◌, length, map, refl, sym, ap, subst, arith, Option, Some, None}
 use Rattle.std.specs.List.{slice_get}
 use Rattle.std.specs.Option.{option_map, option_and_then, IfSome}
 use Rattle.std.specs.Str.{bytes_eq}
@@ -46,8 +46,8 @@ use Rattle.link_spec.specs.Builtins.{builtin_meaning}
 use Rattle.link_spec.specs.Brought.{asked_of}
 use Rattle.link_spec.specs.Items.{argument_named, import_found, FindsItem, IsInline, core_made, core_instance_makes, instance_makes, alias_makes, lifted_with, lift_makes, with_canon, lowered_with, lower_makes, builtin_makes, IsImported, import_makes, said, IsExported, export_makes, type_meaning, defined_makes, makes_case}
 use Rattle.link_spec.proofs.Holding.{all_push, all_mapped, all_flat, all_at, all_second, holds_at, if_mapped, if_found, if_each, if_cond, last_there}
-use Rattle.canonical_machine.specs.Reading.{inst_of_canon}
-use Rattle.canonical_machine.specs.Owners.{owner_of_core, owner_of_canon, owner_of_func, owner_of_extern}
+use Rattle.world.specs.Reading.{inst_of_canon}
+use Rattle.world.specs.Owners.{owner_of_core, owner_of_canon, owner_of_func, owner_of_extern}
 use Rattle.graph_laws.proofs.Owning.{made_by, KeepsOwners, OwnsCanon, OwnsDestructor, IsItemOf, AreExportsOf, IsFuncApart, IsDefinedApart, AreDefinedApart, AreSpacesApart, AreImportsOf, IsLinkingApart, IsReachedApart}
 use Rattle.graph_laws.proofs.Keeping.{kept_mapped, kept_canons, kept_destructors, kept_imports, kept_spaces, keeps_itself}
 use Rattle.graph_laws.proofs.Places.{at_set, makes_behind}
@@ -98,11 +98,11 @@ with_spaces_apart l n s h k = record { scopes = at_set (AreSpacesApart (made_by 
 made_reached : (l : Linking) (n : ℕ) (s : Spaces) (new : Linking) → new ≡ with_spaces l n s → IsLinkingApart l → AreSpacesApart (made_by l) n s → IsReachedApart l new
 made_reached l n s new e h k = subst (IsReachedApart l) (sym e) (record { apart = with_spaces_apart l n s h k; keeps = keeps_itself (made_by l) })
 
-ends_apart : (l : Linking) (types : List ValType) → IsLinkingApart l → IsLinkingApart (with_ends l types)
-ends_apart l types h = record { scopes = h.scopes; imports = h.imports; lowers = h.lowers; destructors = h.destructors; planned = h.planned }
+ends_apart : (l : Linking) (types : List ValType) (room : Bool) → IsLinkingApart l → IsLinkingApart (with_ends l types room)
+ends_apart l types room h = record { scopes = h.scopes; imports = h.imports; lowers = h.lowers; destructors = h.destructors; planned = h.planned }
 
-ends_reached : (l : Linking) (types : List ValType) (new : Linking) → IsReachedApart (with_ends l types) new → IsReachedApart l new
-ends_reached l types new r = record { apart = r.apart; keeps = r.keeps }
+ends_reached : (l : Linking) (types : List ValType) (room : Bool) (new : Linking) → IsReachedApart (with_ends l types room) new → IsReachedApart l new
+ends_reached l types room new r = record { apart = r.apart; keeps = r.keeps }
 
 defined_reached : (l : Linking) (n : ℕ) (s : Spaces) (d : Definition) (new : Linking) → IsLinkingApart l → AreSpacesApart (made_by l) n s → new ≡ with_spaces l n (with_definition s d) → IsDefinedApart (made_by l) d → IsReachedApart l new
 defined_reached l n s d new h k made is = made_reached l n (with_definition s d) new made h (with_defined_apart (made_by l) n s d k is)
@@ -248,7 +248,8 @@ type_reached : (l : Linking) (n : ℕ) (s : Spaces) (written : Option (Option �
 type_reached l n s (Some index) type new h k makes = destructor_reached l n s index new h k makes
 type_reached l n s None type new h k (closed, means, made) =
     let types = noted_type l.end_types closed in
-    ends_reached l types new (defined_reached (with_ends l types) n s (AType closed) new (ends_apart l types h) k made tt)
+    let room = (type_meaning l n s type).has_room in
+    ends_reached l types room new (defined_reached (with_ends l types room) n s (AType closed) new (ends_apart l types room h) k made tt)
 
 -- Imports and exports.
 imported_apart : (g : Graph) (arguments : Option Exports) (name : List ℕ) (extern : Extern) (d : Definition) → IfSome arguments (AreDefinedApart g) → IsImported arguments name extern d → IsDefinedApart g d

@@ -1,6 +1,6 @@
 -- What is known of each function, type, component and core function that items make is known of all that a component is linked to, where
 -- it is known of what types, lifts, lowers and built-ins make.
-use Rattle.std.proofs.Common.{◌≡◌, ℕ, suc, List, [], ◌∷◌, ◌++◌, length, refl, sym, subst, Option, Some, None}
+use Rattle.std.proofs.Common.{◌≡◌, ℕ, Bool, suc, List, [], ◌∷◌, ◌++◌, length, refl, sym, subst, Option, Some, None}
 use Rattle.std.specs.List.{slice_get, AllByRecursion}
 use Rattle.std.specs.Option.{option_and_then, IfSome}
 use Rattle.ca_base.specs.declared.placed.Placed.{Placed}
@@ -60,8 +60,8 @@ module _ (K : Known) where
   spaces_made : (l : Linking) (n : ℕ) (s : Spaces) (new : Linking) → new ≡ with_spaces l n s → IsLinking K l → AreSpaces K s → IsLinking K new
   spaces_made l n s new e h k = subst (IsLinking K) (sym e) (record { scopes = all_set (AreSpaces K) l.scopes n s h.scopes k; canons = h.canons; resources = h.resources })
 
-  ends_held : (l : Linking) (types : List ValType) → IsLinking K l → IsLinking K (with_ends l types)
-  ends_held l types h = record { scopes = h.scopes; canons = h.canons; resources = h.resources }
+  ends_held : (l : Linking) (types : List ValType) (room : Bool) → IsLinking K l → IsLinking K (with_ends l types room)
+  ends_held l types room h = record { scopes = h.scopes; canons = h.canons; resources = h.resources }
 
   defined : (l : Linking) (n : ℕ) (s : Spaces) (d : Definition) (new : Linking) → IsLinking K l → AreSpaces K s → new ≡ with_spaces l n (with_definition s d) → IsDefined K d → IsLinking K new
   defined l n s d new h k made is = spaces_made l n (with_definition s d) new made h (with_defined K s d k is)
@@ -182,7 +182,7 @@ module _ (K : Known) (S : Item-F Item Component → Type 0) (are : AreSteps K S)
   type_held l n s type (Some index) new is has h k makes = destructor_held K l n s index new h k (λ core. are.resources l n type index core has is) makes
   type_held l n s type None new is has h k (closed, means, made) =
       let types = noted_type l.end_types closed in
-      defined K (with_ends l types) n s (AType closed) new (ends_held K l types h) k made (are.types l n s type closed has h means)
+      defined K (with_ends l types (type_meaning l n s type).has_room) n s (AType closed) new (ends_held K l types (type_meaning l n s type).has_room h) k made (are.types l n s type closed has h means)
 
   -- Imports.
   imported_held : (s : Spaces) (name : List ℕ) (asked : ExternDesc) (extern : Extern) (arguments : Option Exports) (d : Definition)

@@ -15,7 +15,7 @@ use Rattle.ca_types.specs.declared.exports.Export.{Export}
 use Rattle.ca_types.proofs.Folds.{held, fold_case, fold_field}
 use Rattle.comp_graph.specs.declared.graph.CanonFunc.{CanonFunc}
 use Rattle.comp_graph.specs.Graph.{Graph}
-use Rattle.canonical_machine.specs.Synchronous.{called_type}
+use Rattle.world.specs.Synchronous.{called_type}
 use Rattle.value_lift.proofs.Layers.{by_layer}
 use Rattle.value_reader.specs.Writable.{all_true, true_if_some}
 use Rattle.graph_laws.specs.Counted.{counted_step, counted_case, counted_field, is_counted, labelled_step, is_labelled}

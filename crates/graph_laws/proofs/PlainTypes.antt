@@ -19,9 +19,9 @@ use Rattle.value_lift.proofs.TypesFound.{out_of_roll}
 use Rattle.value_reader.specs.Writable.{all_true, true_if_some}
 use Rattle.comp_graph.specs.declared.graph.CanonFunc.{CanonFunc}
 use Rattle.comp_graph.specs.Graph.{Graph}
-use Rattle.canonical_machine.specs.Synchronous.{called_type}
+use Rattle.world.specs.Synchronous.{called_type}
 use Rattle.link_spec.proofs.Holding.{all_mapped, all_weaker, if_weaker}
-use Rattle.canonical_machine.specs.Plain.{HoldsNone, PassesNone, IsPlain}
+use Rattle.world.specs.Plain.{HoldsNone, PassesNone, IsPlain}
 use Rattle.graph_laws.specs.Counted.{is_counted, HasCountedTypes, HasCountedFuncs}
 use Rattle.graph_laws.proofs.Marked.{is_marked, HasMarkedTypes, HasMarkedFuncs, marked_in, marked_is, marked_same}
 use Rattle.graph_laws.specs.Laws.{CountedGraphsArePlain}

@@ -1,5 +1,5 @@
 -- What is computed of a component with one inside, and its modules.
-use Rattle.std.proofs.Common.{◌≡◌, ℕ, false, List, [], ◌∷◌, ◌++◌, refl, sym, ap, ◌∙◌, arith, Some, None, Result, Ok, Err}
+use Rattle.std.proofs.Common.{◌≡◌, ℕ, true, false, List, [], ◌∷◌, ◌++◌, refl, sym, ap, ◌∙◌, arith, Some, None, Result, Ok, Err}
 use Rattle.std.specs.Prelude.{codes}
 use Rattle.std.specs.List.{slice_get}
 use Rattle.ca_base.specs.declared.placed.Placed.{Placed}
@@ -88,10 +88,10 @@ abbrev one_core : CoreMake
 one_core = record { of_module = of_one; imports = []; owner = 1 }
 
 abbrev child_begun : Linking
-child_begun = record { scopes = root_spaces ∷ new_spaces (Some EmptyInstance) (0 ∷ []) ∷ []; cores = []; canons = []; resources = []; plan = Begin 0 ∷ Begin 1 ∷ []; end_types = [] }
+child_begun = record { scopes = root_spaces ∷ new_spaces (Some EmptyInstance) (0 ∷ []) ∷ []; cores = []; canons = []; resources = []; plan = Begin 0 ∷ Begin 1 ∷ []; end_types = []; has_room = true }
 
 abbrev child_linked : Spaces → Linking
-child_linked s = record { scopes = s ∷ child_spaces ∷ []; cores = one_core ∷ []; canons = []; resources = []; plan = Begin 0 ∷ Begin 1 ∷ Make 0 ∷ []; end_types = [] }
+child_linked s = record { scopes = s ∷ child_spaces ∷ []; cores = one_core ∷ []; canons = []; resources = []; plan = Begin 0 ∷ Begin 1 ∷ Make 0 ∷ []; end_types = []; has_room = true }
 
 child_runs : (inside : Run) → run inside child_begun 1 (placed_from 10 child) ≡ Ok (child_linked root_spaces)
 child_runs inside = simp layers refl
@@ -127,7 +127,7 @@ with_caller = record with_lowered {
 }
 
 abbrev all_made : Spaces → Linking
-all_made s = record { scopes = s ∷ child_spaces ∷ []; cores = both.cores; canons = both.canons; resources = []; plan = both.plan; end_types = [] }
+all_made s = record { scopes = s ∷ child_spaces ∷ []; cores = both.cores; canons = both.canons; resources = []; plan = both.plan; end_types = []; has_room = true }
 
 calls_one : (inside : Run) → run inside lowered_linked 0 (placed_from 5 calling) ≡ Ok (all_made with_caller)
 calls_one inside = simp layers refl

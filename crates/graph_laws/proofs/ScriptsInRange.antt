@@ -33,7 +33,7 @@ use Rattle.script_reader.specs.Laws.{ScriptsAreTexts}
 use Rattle.script_reader.specs.Script.{Script, export_named}
 use Rattle.script_reader.specs.Syntax.{IsCallOf, SayItems, SayScript, IsScriptText}
 use Rattle.link_spec.proofs.Holding.{all_at, holds_at}
-use Rattle.canonical_machine.specs.Values.{InRange, AllInRange, bool_in, s8_in, u8_in, s16_in, u16_in, s32_in, u32_in, s64_in, u64_in, char_in, string_in, list_in, record_in, flags_in, case_in, payload_in, none_in, more_in}
+use Rattle.lowering_laws.specs.Values.{InRange, AllInRange, bool_in, s8_in, u8_in, s16_in, u16_in, s32_in, u32_in, s64_in, u64_in, char_in, string_in, list_in, record_in, flags_in, case_in, payload_in, none_in, more_in}
 use Rattle.graph_laws.specs.Counted.{counted_case, counted_field, labelled_step, is_labelled, HasLabelledTypes}
 use Rattle.graph_laws.specs.Laws.{ReadScriptsPassInRange}
 use Rattle.graph_laws.proofs.Counting.{scalar, bits_small, length_mapped}

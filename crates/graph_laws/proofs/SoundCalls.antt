@@ -19,10 +19,10 @@ use Rattle.script_reader.specs.declared.script.Item.{Item}
 use Rattle.script_reader.specs.declared.script.Item.TheVariants as item
 use Rattle.script_reader.specs.Script.{export_named, CallsExport, AreItems, AreOfTypes}
 use Rattle.link_spec.proofs.Holding.{all_at, holds_at}
-use Rattle.canonical_machine.specs.Values.{IsOf, EachIs, no_types, more_types, tuple_is}
-use Rattle.canonical_machine.proofs.Fitted.{fitting_values_are}
-use Rattle.canonical_machine.specs.Passing.{params_type}
-use Rattle.canonical_machine.specs.Sound.{IsSoundGraph, IsSoundCall, IsSoundItem}
+use Rattle.lowering_laws.specs.Values.{IsOf, EachIs, no_types, more_types, tuple_is}
+use Rattle.lowering_laws.proofs.Fitted.{fitting_values_are}
+use Rattle.world.specs.Passing.{params_type}
+use Rattle.world.specs.Sound.{IsSoundGraph, IsSoundCall, IsSoundItem}
 use Rattle.graph_laws.specs.Counted.{is_counted, HasCountedTypes, HasCountedFuncs}
 use Rattle.graph_laws.specs.Scripts.{is_call}
 use Rattle.graph_laws.specs.Laws.{CallsAreSound}

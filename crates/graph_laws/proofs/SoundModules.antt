@@ -19,7 +19,7 @@ use Rattle.wasm_typing.proofs.Placing.{told_or_typed}
 use Rattle.wasm_store.specs.Instantiation.{InRange}
 use Rattle.part_reader.specs.declared.fault.ComponentWhy.{ComponentWhy}
 use Rattle.comp_reader.specs.Binary.{validated, module_file, core_module}
-use Rattle.canonical_machine.specs.Sound.{HasBytes}
+use Rattle.lowering_laws.specs.StoreBytes.{HasBytes}
 use Rattle.graph_laws.specs.Laws.{LinkedGraphsAreSound, ReadModulesAreTyped, ReadDataAreBytes, ReadModulesAreSound, ReadGraphsAreSound}
 use Rattle.graph_laws.proofs.Bytes.{IsByte, take_bytes, matches_bytes, GivesOn}
 use Rattle.graph_laws.proofs.DataBytes.{module_has_bytes}

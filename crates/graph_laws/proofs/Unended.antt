@@ -24,7 +24,7 @@ use Rattle.comp_graph.specs.declared.graph.CanonFunc.{CanonFunc}
 use Rattle.comp_graph.specs.declared.graph.CanonFunc.TheVariants as canon_func
 use Rattle.comp_graph.specs.Graph.{Graph}
 use Rattle.comp_graph.specs.Passed.{params_type}
-use Rattle.canonical_machine.specs.Synchronous.{called_type}
+use Rattle.world.specs.Synchronous.{called_type}
 use Rattle.sync_items.specs.Graphs.{holds_any, held_any, passes_none, export_passes_none, call_passes_none, is_plain}
 use Rattle.graph_laws.specs.Counted.{is_counted, HasCountedTypes, HasCountedFuncs}
 use Rattle.graph_laws.proofs.Counting.{counted_in, counted_is, length_mapped}

@@ -12,7 +12,7 @@ use Rattle.ca_types.specs.declared.types.FuncType.{FuncType}
 use Rattle.ca_types.specs.declared.exports.Export.{Export}
 use Rattle.comp_graph.specs.declared.graph.CanonFunc.{CanonFunc}
 use Rattle.comp_graph.specs.Graph.{Graph}
-use Rattle.canonical_machine.specs.Synchronous.{called_type}
+use Rattle.world.specs.Synchronous.{called_type}
 use Rattle.value_reader.specs.Writable.{all_true, true_if_some}
 
 -- A type, where this is known of its parts.

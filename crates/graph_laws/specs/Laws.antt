@@ -16,10 +16,11 @@ use Rattle.script_reader.specs.declared.script.Item.TheVariants as item
 use Rattle.script_reader.specs.Script.{Script, IsScript, AreItems}
 use Rattle.link_spec.specs.Standing.{StandsIn}
 use Rattle.link_spec.specs.Linked.{IsLinked}
-use Rattle.canonical_machine.specs.Sound.{AreBytes, HasBytes, Makes, IsSoundGraph, IsSound}
-use Rattle.canonical_machine.specs.Owners.{IsApart}
-use Rattle.canonical_machine.specs.Plain.{IsPlain}
-use Rattle.canonical_machine.specs.Values.{AllInRange}
+use Rattle.lowering_laws.specs.Values.{AreBytes, AllInRange}
+use Rattle.lowering_laws.specs.StoreBytes.{HasBytes}
+use Rattle.world.specs.Sound.{Makes, IsSoundGraph, IsSound}
+use Rattle.world.specs.Owners.{IsApart}
+use Rattle.world.specs.Plain.{IsPlain}
 use Rattle.graph_laws.specs.Counted.{HasCountedFuncs, HasLabelledTypes, HasLabelledFuncs}
 use Rattle.graph_laws.specs.Scripts.{only_calls}
 

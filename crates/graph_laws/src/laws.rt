@@ -1,6 +1,6 @@
 //! What holds of every linked graph, and of the modules that are read.
 
-ghost use Rattle.canonical_machine.specs.Sound.{AreBytes};
+ghost use Rattle.lowering_laws.specs.Values.{AreBytes};
 ghost use Rattle.graph_laws.specs.Laws.{LinkedGraphsAreSound, PlansMakeInOrder, LinkedGraphsAreApart, ReadModulesAreTyped, ReadDataAreBytes, ReadModulesAreSound, ReadGraphsAreSound, ReadTypesAreLabelled, ReadTypesAreCounted, CountedGraphsArePlain, CallsAreSound, ReadScriptsPassInRange};
 
 use link_spec::laws::graphs_are_sound;

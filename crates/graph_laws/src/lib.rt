@@ -1,7 +1,7 @@
 //! What the graph of a component that is read and linked has (Component Model, Explainer.md, "Instance Definitions" and "Canonical
 //! Definitions"): definitions and laws, without a body.
 //!
-//! The laws of `canonical_machine` ask two things of a graph: that it is sound, and that core definitions stay in the component
+//! The laws of `world` ask two things of a graph: that it is sound, and that core definitions stay in the component
 //! instance that makes them. `specs/Laws` says of every linked graph that it has the second, and of one whose functions are
 //! all synchronous that it has both. Of the modules of the component it asks that they
 //! are typed, that their memories are in range, and that their data are bytes; modules that are read of bytes are so.

@@ -13,13 +13,13 @@ use Rattle.value_lower.specs.Entering.{lowered, store, flat_words, all_stored}
 use Rattle.value_lower.specs.Fitting.{AllFit}
 use Rattle.value_lower.specs.Lowering.{plainly}
 use Rattle.value_lower.specs.Tables.{entered}
-use Rattle.canonical_machine.specs.Settling.{Answer, Settles}
-use Rattle.canonical_machine.specs.ApartPlaces.{Apart}
-use Rattle.canonical_machine.specs.Values.{AllInRange, none_in, more_in, AllAre, none_are, more_are}
-use Rattle.canonical_machine.specs.ValueLaws.{list_target}
-use Rattle.canonical_machine.specs.ValueRooms.{FollowsOver}
-use Rattle.canonical_machine.proofs.Fitted.{fitted}
-use Rattle.canonical_machine.proofs.Standing.{stored_values_stand, stored_lists_stand, placed_values_stand, lowered_words_stand}
+use Rattle.lowering_laws.specs.Settling.{Answer, Settles}
+use Rattle.lowering_laws.specs.ApartPlaces.{Apart}
+use Rattle.lowering_laws.specs.Values.{AllInRange, none_in, more_in, AllAre, none_are, more_are}
+use Rattle.lowering_laws.specs.ValueLaws.{list_target}
+use Rattle.lowering_laws.specs.ValueRooms.{FollowsOver}
+use Rattle.lowering_laws.proofs.Fitted.{fitted}
+use Rattle.lowering_laws.proofs.Standing.{stored_values_stand, stored_lists_stand, placed_values_stand, lowered_words_stand}
 use Rattle.value_laws.specs.Arriving.{HasTable, AllArrive, StoredArrive, ListsArrive, PlacedArrive, LoweredArrive}
 use Rattle.value_laws.proofs.Slots.{slots_sound}
 use Rattle.value_laws.proofs.Going.{Goes, goes_giving, goes_tested, goes_asked}

@@ -25,7 +25,7 @@ use Rattle.value_lift.specs.Standing.{AreBits, Stands, AreElements, AreFields, I
 use Rattle.value_lift.specs.WordStanding.{FlatOf, AreFlat, IsFlatPayload, false_flat, true_flat, s8_flat, u8_flat, s16_flat, u16_flat, s32_flat, u32_flat, s64_flat, u64_flat, char_flat, own_flat, borrow_flat, stream_flat, future_flat, string_flat, list_flat, record_flat, tuple_flat, flags_flat, case_flat, enum_flat, none_flat, some_flat, ok_flat, err_flat, no_flat, more_flat, no_flat_payload, flat_payload_of}
 use Rattle.value_lift.proofs.Carried.{carried_list, carried_record, carried_variant}
 use Rattle.value_lift.proofs.Views as seen
-use Rattle.canonical_machine.proofs.Fitted.{Layer, tests_in, passes, fits_is, field_tests, out_bool, out_s8, out_u8, out_s16, out_u16, out_s32, out_u32, out_s64, out_u64, out_char, out_own, out_borrow, out_stream, out_future, out_string, out_flags, out_list, out_record, out_variant}
+use Rattle.lowering_laws.proofs.Fitted.{Layer, tests_in, passes, fits_is, field_tests, out_bool, out_s8, out_u8, out_s16, out_u16, out_s32, out_u32, out_s64, out_u64, out_char, out_own, out_borrow, out_stream, out_future, out_string, out_flags, out_list, out_record, out_variant}
 
 -- Flags are as many as their labels.
 many_flags : (labels : List (List ℕ)) (n : ℕ) (flags : List Bool) → AreBits labels n flags → length flags ≡ length labels

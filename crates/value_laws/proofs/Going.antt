@@ -12,8 +12,8 @@ use Rattle.value_lower.specs.Following.{Rooms}
 use Rattle.value_lower.specs.Plan.{Ask, New, NewOwn, NewBorrow, NewEnd, number_of, Plan, Fails, Asks, Size, Put, Adds}
 use Rattle.value_lower.specs.Storing.{tested, asked, pointed}
 use Rattle.value_lower.specs.Tables.{entered, with_index}
-use Rattle.canonical_machine.specs.Settling.{Answer, Settles}
-use Rattle.canonical_machine.specs.ValueRooms.{FollowsOver}
+use Rattle.lowering_laws.specs.Settling.{Answer, Settles}
+use Rattle.lowering_laws.specs.ValueRooms.{FollowsOver}
 use Rattle.value_laws.specs.Carrying.{Names, IsTold, own_told, home_told, borrow_told, end_told}
 use Rattle.value_laws.specs.Arriving.{HasTable}
 use Rattle.value_laws.proofs.Slots.{Grows, stands_next, grows_added, next_low}

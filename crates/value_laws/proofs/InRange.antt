@@ -11,9 +11,9 @@ use Rattle.value_lift.specs.Tables.{Kept, at_first}
 use Rattle.value_lift.specs.Settled.{listing, none_listed, unlisted, names_in, carried, all_carried}
 use Rattle.value_lift.proofs.Settling.{load_settled, list_settled, words_settled}
 use Rattle.value_lift.proofs.Unlisted.{loads_plain, lists_plain, words_plain}
-use Rattle.canonical_machine.specs.Values.{InRange, AllInRange}
-use Rattle.canonical_machine.proofs.LiftedValues.{loaded_values_are, loaded_lists_are, lifted_values_are}
-use Rattle.canonical_machine.proofs.Ranged.{ranged, all_ranged}
+use Rattle.lowering_laws.specs.Values.{InRange, AllInRange}
+use Rattle.lowering_laws.proofs.LiftedValues.{loaded_values_are, loaded_lists_are, lifted_values_are}
+use Rattle.lowering_laws.proofs.Ranged.{ranged, all_ranged}
 use Rattle.value_laws.specs.Fitting.{LoadsAreInRange, ListsAreInRange, WordsAreInRange}
 use Rattle.value_laws.proofs.Lifted.{WasPlain, was_plain}
 use Rattle.value_laws.proofs.Ranged.{carried_is, all_carried_are}

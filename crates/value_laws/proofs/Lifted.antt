@@ -30,7 +30,7 @@ use Rattle.copy_engine.specs.Copying.{CopyState, as_copied, all_fit, LowersFitti
 use Rattle.value_lower.specs.Plan.{New}
 use Rattle.value_lower.specs.Tables.{IsEntry}
 use Rattle.value_laws.specs.Fitting.{LoadsFit, ListsFit, WordsFit, CopiesFit}
-use Rattle.canonical_machine.proofs.Asking.{both_true}
+use Rattle.lowering_laws.proofs.Asking.{both_true}
 use Rattle.value_laws.proofs.Fitting.{both, standing_fits, elements_fit, flat_fits}
 
 -- The value that lifting comes to without the list.

@@ -11,7 +11,7 @@ use Rattle.ca_types.specs.declared.value.Value.TheVariants as plain
 use Rattle.ca_types.specs.declared.value.Value.TheFolds.{map-Value, fold-roll-Value}
 use Rattle.value_lift.specs.Settled.{carried_step, carried}
 use Rattle.value_lift.proofs.Carried.{carried_list, carried_record, carried_variant}
-use Rattle.canonical_machine.specs.Values.{IsOf, AllAre, EachIs, PayloadIs, bool_is, s8_is, u8_is, s16_is, u16_is, s32_is, u32_is, s64_is, u64_is, char_is, own_is, borrow_is, stream_is, future_is, string_is, list_is, record_is, tuple_is, flags_are, case_is, enum_is, none_is, some_is, ok_is, err_is, none_are, more_are, no_types, more_types, no_payload_is, payload_is}
+use Rattle.lowering_laws.specs.Values.{IsOf, AllAre, EachIs, PayloadIs, bool_is, s8_is, u8_is, s16_is, u16_is, s32_is, u32_is, s64_is, u64_is, char_is, own_is, borrow_is, stream_is, future_is, string_is, list_is, record_is, tuple_is, flags_are, case_is, enum_is, none_is, some_is, ok_is, err_is, none_are, more_are, no_types, more_types, no_payload_is, payload_is}
 
 module _ (names : ℕ → ℕ) (low : (index : ℕ) → names index < 2 ^ 32) where
   as_step : (t : ValType) (v w : Value) (o : V.Value-F Value) → roll-Value o ≡ v → carried_step names (map-Value Value Value (carried names) o) ≡ w → IsOf t w → IsOf t (carried names v)

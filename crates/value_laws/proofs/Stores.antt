@@ -24,7 +24,7 @@ use Rattle.value_lower.specs.Storing.{plain_bytes, number_bytes, flags_number, a
 use Rattle.value_lower.specs.Entering.{lowered, store}
 use Rattle.value_lower.specs.Lowering.{plainly}
 use Rattle.value_lower.specs.Tables.{entered}
-use Rattle.canonical_machine.specs.Values.{IsOf, AllAre, EachIs, PayloadIs, bool_is, s8_is, u8_is, s16_is, u16_is, s32_is, u32_is, s64_is, u64_is, char_is, own_is, borrow_is, stream_is, future_is, string_is, list_is, record_is, tuple_is, flags_are, case_is, enum_is, none_is, some_is, ok_is, err_is, none_are, more_are, no_types, more_types, no_payload_is, payload_is}
+use Rattle.lowering_laws.specs.Values.{IsOf, AllAre, EachIs, PayloadIs, bool_is, s8_is, u8_is, s16_is, u16_is, s32_is, u32_is, s64_is, u64_is, char_is, own_is, borrow_is, stream_is, future_is, string_is, list_is, record_is, tuple_is, flags_are, case_is, enum_is, none_is, some_is, ok_is, err_is, none_are, more_are, no_types, more_types, no_payload_is, payload_is}
 use Rattle.value_laws.specs.Arriving.{HasTable}
 use Rattle.value_laws.specs.Carrying.{Carries, AllCarry, EachCarries, PayloadCarries, bool_carries, s8_carries, u8_carries, s16_carries, u16_carries, s32_carries, u32_carries, s64_carries, u64_carries, char_carries, string_carries, flags_carry, own_carries, borrow_carries, stream_carries, future_carries, list_carries, record_carries, tuple_carries, case_carries, enum_carries, none_carries, some_carries, ok_carries, err_carries, none_carry, more_carry, no_carries, more_carries, no_payload_carries, payload_carries}
 use Rattle.value_laws.proofs.Equations.{IsNumber, somes, store_by, number_store, list_store, row_store, lowered_payload, case_store, case_at}

@@ -26,10 +26,10 @@ use Rattle.copy_engine.specs.Answering.{Setting}
 use Rattle.copy_engine.specs.Copying.{CopyState, as_copied, all_fit, LowersFitting, CopiesBy}
 use Rattle.copy_engine.specs.Hosted.{Placed, plan_all, PlanComesTo, hosted_rooms}
 use Rattle.copy_engine.specs.Nested.{bytes_in}
-use Rattle.canonical_machine.specs.Values.{AllAre}
-use Rattle.canonical_machine.specs.ValueRooms.{FollowsOver}
-use Rattle.canonical_machine.proofs.Followed.{followed_over}
-use Rattle.canonical_machine.proofs.LiftedValues.{loaded_lists_are}
+use Rattle.lowering_laws.specs.Values.{AllAre}
+use Rattle.lowering_laws.specs.ValueRooms.{FollowsOver}
+use Rattle.lowering_laws.proofs.Followed.{followed_over}
+use Rattle.lowering_laws.proofs.LiftedValues.{loaded_lists_are}
 use Rattle.value_laws.specs.Transport.{CopiesTransport}
 use Rattle.value_laws.proofs.Arrived.{these_arrive}
 use Rattle.value_laws.proofs.Lifted.{was_plain}

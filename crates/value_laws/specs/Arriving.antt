@@ -13,11 +13,11 @@ use Rattle.value_lower.specs.Following.{Rooms}
 use Rattle.value_lower.specs.Entering.{stored, all_stored, placed, flat_lowered}
 use Rattle.value_lower.specs.Fitting.{AllFit}
 use Rattle.value_lower.specs.Tables.{entered, gets}
-use Rattle.canonical_machine.specs.Settling.{Answer}
-use Rattle.canonical_machine.specs.ApartPlaces.{Region, Apart}
-use Rattle.canonical_machine.specs.Values.{InRange, AllInRange}
-use Rattle.canonical_machine.specs.ValueLaws.{target, list_target, IsPlaced}
-use Rattle.canonical_machine.specs.ValueRooms.{FollowsOver}
+use Rattle.lowering_laws.specs.Settling.{Answer}
+use Rattle.lowering_laws.specs.ApartPlaces.{Region, Apart}
+use Rattle.lowering_laws.specs.Values.{InRange, AllInRange}
+use Rattle.lowering_laws.specs.ValueLaws.{target, list_target, IsPlaced}
+use Rattle.lowering_laws.specs.ValueRooms.{FollowsOver}
 use Rattle.value_laws.specs.Carrying.{Carries, AllCarry}
 
 -- Rooms that have this table: a realloc and a store leave it as it is, and an entry gets the next index.

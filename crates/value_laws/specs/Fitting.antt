@@ -15,7 +15,7 @@ use Rattle.value_lift.specs.Lifting.{most}
 use Rattle.value_lift.specs.Over.{load_by, load_list_by, lift_flat_by}
 use Rattle.value_lift.specs.Tables.{Kept, by_table, at_first}
 use Rattle.value_lift.specs.Settled.{names_in}
-use Rattle.canonical_machine.specs.Values.{InRange, AllInRange, AreBytes}
+use Rattle.lowering_laws.specs.Values.{InRange, AllInRange, AreBytes}
 use Rattle.copy_engine.specs.declared.copying.CopyFrom.{CopyFrom}
 use Rattle.copy_engine.specs.declared.copying.Copied.{Copied}
 use Rattle.copy_engine.specs.declared.copying.Copied.TheVariants as copied

@@ -20,11 +20,11 @@ use Rattle.copy_engine.specs.Answering.{Setting}
 use Rattle.copy_engine.specs.Copying.{CopyState, CopiesElements}
 use Rattle.copy_engine.specs.Hosted.{plan_all, hosted_rooms}
 use Rattle.copy_engine.specs.Nested.{bytes_in}
-use Rattle.canonical_machine.specs.Settling.{Answer}
-use Rattle.canonical_machine.specs.ApartPlaces.{Apart}
-use Rattle.canonical_machine.specs.Values.{AreBytes}
-use Rattle.canonical_machine.specs.ValueLaws.{list_target}
-use Rattle.canonical_machine.specs.ValueRooms.{FollowsOver}
+use Rattle.lowering_laws.specs.Settling.{Answer}
+use Rattle.lowering_laws.specs.ApartPlaces.{Apart}
+use Rattle.lowering_laws.specs.Values.{AreBytes}
+use Rattle.lowering_laws.specs.ValueLaws.{list_target}
+use Rattle.lowering_laws.specs.ValueRooms.{FollowsOver}
 use Rattle.value_laws.specs.Arriving.{AllArrive}
 
 -- By which entries are of what is new, and how a table is seen: so many elements of a type stood in a memory from a place on, and with their

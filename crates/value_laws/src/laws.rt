@@ -5,7 +5,7 @@ ghost use Rattle.ca_types.specs.declared.types.ValType.{ValType};
 ghost use Rattle.value_lower.specs.Tables.{tabled, IsEntry};
 ghost use Rattle.copy_engine.specs.Answering.{Setting};
 ghost use Rattle.copy_engine.specs.Hosted.{hosted_rooms};
-ghost use Rattle.canonical_machine.specs.ValueRooms.{FollowedOver};
+ghost use Rattle.lowering_laws.specs.ValueRooms.{FollowedOver};
 ghost use Rattle.value_laws.specs.Fitting.{LoadsFit, ListsFit, WordsFit, CopiesFit, LoadsAreInRange, ListsAreInRange, WordsAreInRange};
 ghost use Rattle.value_laws.specs.Carrying.{CarriedAreNamed};
 ghost use Rattle.value_laws.specs.Arriving.{StoredArrive, ListsArrive, PlacedArrive, LoweredArrive};

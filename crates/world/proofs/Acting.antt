@@ -12,19 +12,19 @@ use Rattle.wasm_execution.specs.declared.running.Outcome.{Outcome}
 use Rattle.wasm_execution.specs.declared.running.Outcome.TheVariants as outcome
 use Rattle.comp_graph.specs.Graph.{Graph}
 use Rattle.script_reader.specs.Script.{Script}
-use Rattle.canonical_machine.specs.Traps.{core_name}
-use Rattle.canonical_machine.specs.Control.{Control, Free, Runs, Calls, Doomed}
-use Rattle.canonical_machine.specs.World.{New, Acting, AfterCall, Begins, Exited, TaskState, Task, World}
-use Rattle.canonical_machine.specs.Edits.{changed_at, with_stack, unstacked}
-use Rattle.canonical_machine.specs.Reading.{acting}
-use Rattle.canonical_machine.specs.Turn.{Turn, charged, given}
-use Rattle.canonical_machine.specs.Turn as turn
-use Rattle.canonical_machine.specs.CoreSteps.{costs, stack_ended, moved, running_turn}
-use Rattle.canonical_machine.specs.Returning.{returning_turn}
-use Rattle.canonical_machine.specs.Next.{next}
-use Rattle.canonical_machine.specs.Run.{RunsFrom}
-use Rattle.canonical_machine.specs.declared.run_end.RunEnd.TheVariants.{Fuel}
-use Rattle.canonical_machine.proofs.Changed.{changed_there}
+use Rattle.world.specs.Traps.{core_name}
+use Rattle.world.specs.Control.{Control, Free, Runs, Calls, Doomed}
+use Rattle.world.specs.World.{New, Acting, AfterCall, Begins, Exited, TaskState, Task, World}
+use Rattle.world.specs.Edits.{changed_at, with_stack, unstacked}
+use Rattle.world.specs.Reading.{acting}
+use Rattle.world.specs.Turn.{Turn, charged, given}
+use Rattle.world.specs.Turn as turn
+use Rattle.world.specs.CoreSteps.{costs, stack_ended, moved, running_turn}
+use Rattle.world.specs.Returning.{returning_turn}
+use Rattle.world.specs.Next.{next}
+use Rattle.world.specs.Run.{RunsFrom}
+use Rattle.world.specs.declared.run_end.RunEnd.TheVariants.{Fuel}
+use Rattle.world.proofs.Changed.{changed_there}
 use Rattle.world.specs.Parts.{LeadsTo, Meets, with_room}
 use Rattle.world.specs.Stacks.{RunsStack, StackLeads, StacksLead}
 use Rattle.world.proofs.Leads.{meets_step}

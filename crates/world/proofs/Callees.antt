@@ -15,8 +15,8 @@ use Rattle.script_reader.specs.declared.script.Call.{Call}
 use Rattle.script_reader.specs.declared.script.Item.{Item}
 use Rattle.script_reader.specs.declared.script.Item.TheVariants as item
 use Rattle.script_reader.specs.Script.{Script}
-use Rattle.canonical_machine.specs.World.{Func, Task}
-use Rattle.canonical_machine.specs.Reading.{lower_of, lower_at, lifted_of}
+use Rattle.world.specs.World.{Func, Task}
+use Rattle.world.specs.Reading.{lower_of, lower_at, lifted_of}
 use Rattle.world.specs.declared.called.CalledFunc.{CalledFunc}
 use Rattle.world.specs.declared.state.Waiter.{Waiter}
 use Rattle.world.specs.Seen.{IsScriptCall, IsTaskCall, IsCalled}

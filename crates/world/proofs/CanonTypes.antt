@@ -17,7 +17,7 @@ use Rattle.comp_graph.specs.declared.graph.CanonFunc.TheVariants as canon_func
 use Rattle.comp_graph.specs.declared.func_types.PassedTypes.{PassedTypes}
 use Rattle.comp_graph.specs.Needs.{core_val, lowered_type}
 use Rattle.comp_graph.specs.Passed.{ArePassed, params_type}
-use Rattle.canonical_machine.specs.Synchronous.{canon_type}
+use Rattle.world.specs.Synchronous.{canon_type}
 
 -- what the first tell, where more than so many tell nothing
 first_tell : (n m : ℕ) (told : List CoreType → List CoreType) (many : List CoreType) (ts : List CoreType) → n < m

@@ -5,9 +5,9 @@ use Rattle.wasm_store.specs.Store.{Function, Store, Host}
 use Rattle.wasm_store.specs.Instantiation.{empty}
 use Rattle.comp_graph.specs.declared.graph.CanonFunc.{CanonFunc}
 use Rattle.comp_graph.specs.Graph.{Graph}
-use Rattle.canonical_machine.specs.Synchronous.{canon_type}
+use Rattle.world.specs.Synchronous.{canon_type}
 use Rattle.script_reader.specs.Script.{Script}
-use Rattle.canonical_machine.specs.World.{Task, first_store, first_world}
+use Rattle.world.specs.World.{Task, first_store, first_world}
 use Rattle.world.specs.declared.state.RunState.{RunState}
 use Rattle.world.specs.declared.state.Waiter.{Waiter}
 use Rattle.world.specs.Parts.{LeadsTo}

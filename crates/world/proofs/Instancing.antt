@@ -18,25 +18,25 @@ use Rattle.comp_graph.specs.declared.graph.Action.{Action}
 use Rattle.comp_graph.specs.declared.graph.Action.TheVariants.{Begin, Make}
 use Rattle.comp_graph.specs.Graph.{CoreMake, Graph, AreImported}
 use Rattle.script_reader.specs.Script.{Script}
-use Rattle.trace_show.specs.declared.label.Label.{Label}
-use Rattle.trace_show.specs.declared.trap.TrapName.TheVariants as trap
-use Rattle.canonical_machine.specs.declared.run_end.RunEnd.{RunEnd}
-use Rattle.canonical_machine.specs.declared.run_end.RunEnd.TheVariants.{Trapped}
-use Rattle.canonical_machine.specs.Control.{Control, Free, Instantiates, Doomed}
-use Rattle.canonical_machine.specs.World.{Acting, Exited, Task, World, first_world}
-use Rattle.canonical_machine.specs.Edits.{with_control, with_store, instance_begun, unchained, in_state}
-use Rattle.canonical_machine.specs.Reading.{externals}
-use Rattle.canonical_machine.specs.Turn.{Steps, Ends, given}
-use Rattle.canonical_machine.specs.Instantiating.{started_up, made, action_turn, instantiating_turn}
-use Rattle.canonical_machine.specs.Next.{next_by, next}
-use Rattle.canonical_machine.specs.Sound.{IsSound}
-use Rattle.canonical_machine.specs.Sound as sounds
-use Rattle.canonical_machine.specs.Owners.{IsApart}
-use Rattle.canonical_machine.specs.Kept.{WereMadeSoFar, IsKeptBy}
-use Rattle.canonical_machine.specs.Tasks.{NoStack, IsInit, IsChain}
-use Rattle.canonical_machine.proofs.Changed.{drop_next, changed_length}
-use Rattle.canonical_machine.proofs.Graphs.{hosts_of}
-use Rattle.canonical_machine.proofs.Imports.{ImportsAreThere, imports_match, imported_behind}
+use Rattle.trace_labels.specs.declared.label.Label.{Label}
+use Rattle.trace_labels.specs.declared.trap.TrapName.TheVariants as trap
+use Rattle.world.specs.declared.run_end.RunEnd.{RunEnd}
+use Rattle.world.specs.declared.run_end.RunEnd.TheVariants.{Trapped}
+use Rattle.world.specs.Control.{Control, Free, Instantiates, Doomed}
+use Rattle.world.specs.World.{Acting, Exited, Task, World, first_world}
+use Rattle.world.specs.Edits.{with_control, with_store, instance_begun, unchained, in_state}
+use Rattle.world.specs.Reading.{externals}
+use Rattle.world.specs.Turn.{Steps, Ends, given}
+use Rattle.world.specs.Instantiating.{started_up, made, action_turn, instantiating_turn}
+use Rattle.world.specs.Next.{next_by, next}
+use Rattle.world.specs.Sound.{IsSound}
+use Rattle.world.specs.Sound as sounds
+use Rattle.world.specs.Owners.{IsApart}
+use Rattle.world.specs.Kept.{WereMadeSoFar, IsKeptBy}
+use Rattle.world.specs.Tasks.{NoStack, IsInit, IsChain}
+use Rattle.world.proofs.Changed.{drop_next, changed_length}
+use Rattle.world.proofs.Graphs.{hosts_of}
+use Rattle.world.proofs.Imports.{ImportsAreThere, imports_match, imported_behind}
 use Rattle.world.specs.declared.state.RunState.{RunState}
 use Rattle.world.specs.Parts.{LeadsTo, IsSafe}
 use Rattle.world.specs.Seen.{IsAtPlan, IsAtFree, EndsBy}

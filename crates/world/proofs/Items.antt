@@ -14,22 +14,22 @@ use Rattle.script_reader.specs.declared.script.Call.{Call}
 use Rattle.script_reader.specs.declared.script.Item.{Item}
 use Rattle.script_reader.specs.declared.script.Item.TheVariants as item
 use Rattle.script_reader.specs.Script.{Script}
-use Rattle.trace_show.specs.declared.label.Label.{Label}
-use Rattle.trace_show.specs.declared.label.Label.TheVariants as line
-use Rattle.trace_show.specs.declared.typed.TypedValue.{TypedValue}
-use Rattle.canonical_machine.specs.declared.run_end.RunEnd.TheVariants.{Done, Fuel}
-use Rattle.canonical_machine.specs.Control.{Control, Free}
-use Rattle.canonical_machine.specs.World.{Func, Host, Task, World, new_task, first_world}
-use Rattle.canonical_machine.specs.Edits.{with_control, item_taken}
-use Rattle.canonical_machine.specs.Reading.{unfinished}
-use Rattle.canonical_machine.specs.Turn.{Steps, Ends, given}
-use Rattle.canonical_machine.specs.Calling.{begun, typed, arguments_typed, taken, end_of, item_turn, free_turn}
-use Rattle.canonical_machine.specs.Next.{next_by, next}
-use Rattle.canonical_machine.specs.Run.{Reaches}
-use Rattle.canonical_machine.specs.Sound.{IsSound, IsSoundItem, IsSoundCall}
-use Rattle.canonical_machine.specs.Owners.{IsApart}
-use Rattle.canonical_machine.specs.Tasks.{IsChain}
-use Rattle.canonical_machine.proofs.Deadlocks.{no_deadlock}
+use Rattle.trace_labels.specs.declared.label.Label.{Label}
+use Rattle.trace_labels.specs.declared.label.Label.TheVariants as line
+use Rattle.trace_labels.specs.declared.typed.TypedValue.{TypedValue}
+use Rattle.world.specs.declared.run_end.RunEnd.TheVariants.{Done, Fuel}
+use Rattle.world.specs.Control.{Control, Free}
+use Rattle.world.specs.World.{Func, Host, Task, World, new_task, first_world}
+use Rattle.world.specs.Edits.{with_control, item_taken}
+use Rattle.world.specs.Reading.{unfinished}
+use Rattle.world.specs.Turn.{Steps, Ends, given}
+use Rattle.world.specs.Calling.{begun, typed, arguments_typed, taken, end_of, item_turn, free_turn}
+use Rattle.world.specs.Next.{next_by, next}
+use Rattle.world.specs.Run.{Reaches}
+use Rattle.world.specs.Sound.{IsSound, IsSoundItem, IsSoundCall}
+use Rattle.world.specs.Owners.{IsApart}
+use Rattle.world.specs.Tasks.{IsChain}
+use Rattle.world.proofs.Deadlocks.{no_deadlock}
 use Rattle.world.specs.declared.state.Waiter.{Waiter}
 use Rattle.world.specs.declared.state.RunState.{RunState}
 use Rattle.world.specs.Parts.{LeadsTo, IsSafe}

@@ -2,15 +2,15 @@
 use Rattle.std.proofs.Common.{◌≡◌, List, [], ◌∷◌, ◌++◌, refl, sym, ap, ◌∙◌, subst, append_assoc, append-nil}
 use Rattle.comp_graph.specs.Graph.{Graph}
 use Rattle.script_reader.specs.Script.{Script}
-use Rattle.trace_show.specs.declared.label.Label.{Label}
-use Rattle.canonical_machine.specs.declared.run_end.RunEnd.{RunEnd}
-use Rattle.canonical_machine.specs.World.{World}
-use Rattle.canonical_machine.specs.Turn.{Turn, Steps, Ends}
-use Rattle.canonical_machine.specs.Next.{next}
-use Rattle.canonical_machine.specs.Run.{Reaches, lines_of, RunsFrom}
-use Rattle.canonical_machine.proofs.Worlds.{first_kept, stays_kept}
-use Rattle.canonical_machine.proofs.ApartSteps.{first_apart, apart_stays}
-use Rattle.canonical_machine.proofs.Apart.{never_stuck}
+use Rattle.trace_labels.specs.declared.label.Label.{Label}
+use Rattle.world.specs.declared.run_end.RunEnd.{RunEnd}
+use Rattle.world.specs.World.{World}
+use Rattle.world.specs.Turn.{Turn, Steps, Ends}
+use Rattle.world.specs.Next.{next}
+use Rattle.world.specs.Run.{Reaches, lines_of, RunsFrom}
+use Rattle.world.proofs.Worlds.{first_kept, stays_kept}
+use Rattle.world.proofs.ApartSteps.{first_apart, apart_stays}
+use Rattle.world.proofs.Apart.{never_stuck}
 use Rattle.world.specs.Parts.{LeadsTo, Meets, IsSafe}
 use Rattle.world.specs.PartLaws.{PartsJoin, MeetsBehind, EndsBehind, StepFollows, EndFollows, FirstSafe, SafeStays, SafeMoves}
 

@@ -26,8 +26,8 @@ use Rattle.value_lift.proofs.WordTypes.{word_told_type}
 use Rattle.value_lift.proofs.TypesStopped.{type_stops}
 use Rattle.value_lift.proofs.WordFailed.{word_failed}
 use Rattle.comp_graph.specs.Needs.{core_val, lowered_type}
-use Rattle.canonical_machine.specs.Passing.{params_type, params_in_memory, arguments_lifted}
-use Rattle.canonical_machine.proofs.Words.{many_words}
+use Rattle.world.specs.Passing.{params_type, params_in_memory, arguments_lifted}
+use Rattle.world.proofs.Words.{many_words}
 use Rattle.world.specs.Passed.{TakeWords}
 
 -- More words than there are core values change nothing.

@@ -11,11 +11,11 @@ use Rattle.ca_base.specs.declared.memory.MemoryOr.{MemoryOr}
 use Rattle.ca_base.specs.declared.memory.MemoryOr.TheVariants.{Memory, Fault}
 use Rattle.ca_base.specs.Faults.{MayMake}
 use Rattle.value_lift.specs.declared.trap.LiftTrap.{LiftTrap}
-use Rattle.trace_show.specs.declared.typed.TypedValue.{TypedValue}
+use Rattle.trace_labels.specs.declared.typed.TypedValue.{TypedValue}
 use Rattle.value_lift.specs.declared.counting.LiftOf.TheVariants as whole
 use Rattle.value_lift.specs.Lifting.{load, lift_flat}
-use Rattle.canonical_machine.specs.Passing.{result_lifted}
-use Rattle.canonical_machine.specs.Returning.{typed_result, result_of}
+use Rattle.world.specs.Passing.{result_lifted}
+use Rattle.world.specs.Returning.{typed_result, result_of}
 
 -- more than one of the first so many
 pub many_more : (ts : List CoreType) → 1 < length (take 17 ts) → nat_lt 1 (length ts) ≡ true

@@ -10,15 +10,15 @@ use Rattle.wasm_execution.specs.declared.running.Outcome.{Outcome}
 use Rattle.wasm_execution.specs.declared.running.Outcome.TheVariants as outcome
 use Rattle.comp_graph.specs.Graph.{Graph}
 use Rattle.script_reader.specs.Script.{Script}
-use Rattle.canonical_machine.specs.declared.run_end.RunEnd.TheVariants.{Fuel}
-use Rattle.canonical_machine.specs.Control.{Free}
-use Rattle.canonical_machine.specs.World.{World}
-use Rattle.canonical_machine.specs.Edits.{unit_spent}
-use Rattle.canonical_machine.specs.Turn.{Turn, charged}
-use Rattle.canonical_machine.specs.Turn as turn
-use Rattle.canonical_machine.specs.CoreSteps.{costs}
-use Rattle.canonical_machine.specs.Next.{next}
-use Rattle.canonical_machine.specs.Run.{RunsFrom}
+use Rattle.world.specs.declared.run_end.RunEnd.TheVariants.{Fuel}
+use Rattle.world.specs.Control.{Free}
+use Rattle.world.specs.World.{World}
+use Rattle.world.specs.Edits.{unit_spent}
+use Rattle.world.specs.Turn.{Turn, charged}
+use Rattle.world.specs.Turn as turn
+use Rattle.world.specs.CoreSteps.{costs}
+use Rattle.world.specs.Next.{next}
+use Rattle.world.specs.Run.{RunsFrom}
 use Rattle.world.specs.Parts.{LeadsTo, Meets, with_room, WithUsed}
 use Rattle.world.proofs.Leads.{leads_same, leads_step, leads_then, meets_here, meets_behind, ends_here, ends_behind}
 

@@ -14,21 +14,21 @@ use Rattle.wasm_execution.specs.declared.running.Outcome.TheVariants as outcome
 use Rattle.comp_graph.specs.declared.graph.CanonFunc.{CanonFunc}
 use Rattle.comp_graph.specs.Graph.{Graph}
 use Rattle.script_reader.specs.Script.{Script}
-use Rattle.trace_show.specs.declared.label.Label.TheVariants as line
-use Rattle.trace_show.specs.declared.trap.TrapName.TheVariants as trap
-use Rattle.canonical_machine.specs.declared.run_end.RunEnd.TheVariants.{Fuel}
-use Rattle.canonical_machine.specs.Traps.{core_name}
-use Rattle.canonical_machine.specs.Control.{Control, Free, HostedState, Going, AtCall, Nested, Behind, InLowering, BeforeLeaving, Quiet, Leaves, Doomed}
-use Rattle.canonical_machine.specs.World.{World}
-use Rattle.canonical_machine.specs.Reading.{builtin_of, inst_of_canon}
-use Rattle.canonical_machine.specs.Turn.{Turn, charged, silent, doomed, given}
-use Rattle.canonical_machine.specs.Turn as turn
-use Rattle.canonical_machine.specs.CoreSteps.{costs}
-use Rattle.canonical_machine.specs.Nested.{hosted_move, nested_ended, refused, hosted, nested_turn}
-use Rattle.canonical_machine.specs.Next.{next}
-use Rattle.canonical_machine.specs.Run.{RunsFrom}
-use Rattle.canonical_machine.specs.Kept.{IsKeptBy}
-use Rattle.canonical_machine.specs.Owners.{owner_of_canon}
+use Rattle.trace_labels.specs.declared.label.Label.TheVariants as line
+use Rattle.trace_labels.specs.declared.trap.TrapName.TheVariants as trap
+use Rattle.world.specs.declared.run_end.RunEnd.TheVariants.{Fuel}
+use Rattle.world.specs.Traps.{core_name}
+use Rattle.world.specs.Control.{Control, Free, HostedState, Going, AtCall, Nested, Behind, InLowering, BeforeLeaving, Quiet, Leaves, Doomed}
+use Rattle.world.specs.World.{World}
+use Rattle.world.specs.Reading.{builtin_of, inst_of_canon}
+use Rattle.world.specs.Turn.{Turn, charged, silent, doomed, given}
+use Rattle.world.specs.Turn as turn
+use Rattle.world.specs.CoreSteps.{costs}
+use Rattle.world.specs.Nested.{hosted_move, nested_ended, refused, hosted, nested_turn}
+use Rattle.world.specs.Next.{next}
+use Rattle.world.specs.Run.{RunsFrom}
+use Rattle.world.specs.Kept.{IsKeptBy}
+use Rattle.world.specs.Owners.{owner_of_canon}
 use Rattle.world.specs.Parts.{LeadsTo, Meets, with_room, IsSafe}
 use Rattle.world.specs.Stacks.{Refused, PostReturnLeads, PostReturnsLead}
 use Rattle.world.proofs.Leads.{leads_step, leads_then, leads_safe, meets_step}

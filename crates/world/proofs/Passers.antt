@@ -14,11 +14,11 @@ use Rattle.script_reader.specs.declared.script.Call.{Call}
 use Rattle.script_reader.specs.declared.script.Item.{Item}
 use Rattle.script_reader.specs.declared.script.Item.TheVariants as item
 use Rattle.script_reader.specs.Script.{Script}
-use Rattle.canonical_machine.specs.World.{Caller, Task}
-use Rattle.canonical_machine.specs.Passing.{arguments_lifted}
-use Rattle.canonical_machine.specs.Calling.{called_by}
-use Rattle.canonical_machine.specs.Entering.{passed, arguments_of}
-use Rattle.canonical_machine.specs.Reading.{memory_of, bytes_of, lower_at}
+use Rattle.world.specs.World.{Caller, Task}
+use Rattle.world.specs.Passing.{arguments_lifted}
+use Rattle.world.specs.Calling.{called_by}
+use Rattle.world.specs.Entering.{passed, arguments_of}
+use Rattle.world.specs.Reading.{memory_of, bytes_of, lower_at}
 use Rattle.world.specs.declared.state.Waiter.{Waiter}
 use Rattle.world.specs.Passed.{Passes, CanPass, IsPassedBy}
 use Rattle.world.specs.Seen.{IsScriptCall, IsTaskCall, IsCalled}

@@ -5,7 +5,7 @@ use Rattle.wasm_store.specs.Stack.{Stack, Running, AtHost, Given}
 use Rattle.wasm_store.specs.Step.{Ends, Calls, next, cost, Moves}
 use Rattle.wasm_execution.specs.Run.{Comes, Asks}
 use Rattle.wasm_execution.specs.Waiting.{Waiting}
-use Rattle.canonical_machine.proofs.Holding as holding
+use Rattle.lowering_laws.proofs.Holding as holding
 use Rattle.world.specs.declared.state.Waiter.{Waiter}
 use Rattle.world.specs.declared.state.RunState.{RunState}
 use Rattle.world.specs.Changes.{IsHeld, Waits}

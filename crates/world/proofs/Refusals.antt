@@ -4,16 +4,16 @@ use Rattle.std.specs.List.{slice_get}
 use Rattle.comp_graph.specs.declared.graph.CanonFunc.{CanonFunc}
 use Rattle.comp_graph.specs.Graph.{Graph}
 use Rattle.script_reader.specs.Script.{Script}
-use Rattle.trace_show.specs.declared.builtin.Builtin.{Builtin}
-use Rattle.trace_show.specs.declared.label.Label.{Label}
-use Rattle.trace_show.specs.declared.label.Label.TheVariants as line
-use Rattle.trace_show.specs.declared.trap.TrapName.TheVariants as trap
-use Rattle.canonical_machine.specs.declared.run_end.RunEnd.{RunEnd}
-use Rattle.canonical_machine.specs.declared.run_end.RunEnd.TheVariants.{Trapped}
-use Rattle.canonical_machine.specs.World.{World, first_world}
-use Rattle.canonical_machine.specs.Reading.{builtin_of}
-use Rattle.canonical_machine.specs.Turn.{Ends}
-use Rattle.canonical_machine.specs.Next.{next}
+use Rattle.trace_labels.specs.declared.builtin.Builtin.{Builtin}
+use Rattle.trace_labels.specs.declared.label.Label.{Label}
+use Rattle.trace_labels.specs.declared.label.Label.TheVariants as line
+use Rattle.trace_labels.specs.declared.trap.TrapName.TheVariants as trap
+use Rattle.world.specs.declared.run_end.RunEnd.{RunEnd}
+use Rattle.world.specs.declared.run_end.RunEnd.TheVariants.{Trapped}
+use Rattle.world.specs.World.{World, first_world}
+use Rattle.world.specs.Reading.{builtin_of}
+use Rattle.world.specs.Turn.{Ends}
+use Rattle.world.specs.Next.{next}
 use Rattle.world.specs.declared.state.RunState.{RunState}
 use Rattle.world.specs.Parts.{LeadsTo}
 use Rattle.world.specs.Seen.{EndsBy}

@@ -20,29 +20,29 @@ use Rattle.wasm_execution.specs.declared.running.Outcome.TheVariants as outcome
 use Rattle.comp_graph.specs.declared.graph.CanonFunc.{CanonFunc}
 use Rattle.comp_graph.specs.Graph.{Graph}
 use Rattle.script_reader.specs.Script.{Script}
-use Rattle.trace_show.specs.declared.label.Label.{Label}
-use Rattle.trace_show.specs.declared.label.Label.TheVariants as line
-use Rattle.trace_show.specs.declared.trap.TrapName.{TrapName}
-use Rattle.trace_show.specs.declared.trap.TrapName.TheVariants as trap
-use Rattle.canonical_machine.specs.declared.run_end.RunEnd.{RunEnd}
-use Rattle.canonical_machine.specs.declared.run_end.RunEnd.TheVariants.{Trapped, Fuel}
-use Rattle.canonical_machine.specs.Traps.{core_name}
-use Rattle.canonical_machine.specs.Control.{Control, Free, Instantiates, Runs, Calls, Doomed}
-use Rattle.canonical_machine.specs.World.{Acting, Begins, TaskState, Task, World, first_world}
-use Rattle.canonical_machine.specs.Edits.{with_control, with_store, changed_at, in_state, stacked, with_stack, unstacked}
-use Rattle.canonical_machine.specs.Reading.{builtin_of, is_instantiated, has_exited}
-use Rattle.canonical_machine.specs.Turn.{Steps, given, behind, doomed}
-use Rattle.canonical_machine.specs.Instantiating.{started_up}
-use Rattle.canonical_machine.specs.CoreSteps.{stack_ended}
-use Rattle.canonical_machine.specs.Reply.{reply, allowed, calling_turn}
-use Rattle.canonical_machine.specs.Next.{next_by, next}
-use Rattle.canonical_machine.specs.Run.{RunsFrom}
-use Rattle.canonical_machine.specs.Sound.{IsSound}
-use Rattle.canonical_machine.specs.Owners.{IsApart}
-use Rattle.canonical_machine.specs.Tasks.{NoStack, IsInit, IsChain}
-use Rattle.canonical_machine.specs.Kept.{IsCalling, IsOfActing, core_results, AreMadeBy, AreTyped, IsKeptBy}
-use Rattle.canonical_machine.proofs.Changed.{changed_length}
-use Rattle.canonical_machine.proofs.Ordered.{init_acting, init_changed}
+use Rattle.trace_labels.specs.declared.label.Label.{Label}
+use Rattle.trace_labels.specs.declared.label.Label.TheVariants as line
+use Rattle.trace_labels.specs.declared.trap.TrapName.{TrapName}
+use Rattle.trace_labels.specs.declared.trap.TrapName.TheVariants as trap
+use Rattle.world.specs.declared.run_end.RunEnd.{RunEnd}
+use Rattle.world.specs.declared.run_end.RunEnd.TheVariants.{Trapped, Fuel}
+use Rattle.world.specs.Traps.{core_name}
+use Rattle.world.specs.Control.{Control, Free, Instantiates, Runs, Calls, Doomed}
+use Rattle.world.specs.World.{Acting, Begins, TaskState, Task, World, first_world}
+use Rattle.world.specs.Edits.{with_control, with_store, changed_at, in_state, stacked, with_stack, unstacked}
+use Rattle.world.specs.Reading.{builtin_of, is_instantiated, has_exited}
+use Rattle.world.specs.Turn.{Steps, given, behind, doomed}
+use Rattle.world.specs.Instantiating.{started_up}
+use Rattle.world.specs.CoreSteps.{stack_ended}
+use Rattle.world.specs.Reply.{reply, allowed, calling_turn}
+use Rattle.world.specs.Next.{next_by, next}
+use Rattle.world.specs.Run.{RunsFrom}
+use Rattle.world.specs.Sound.{IsSound}
+use Rattle.world.specs.Owners.{IsApart}
+use Rattle.world.specs.Tasks.{NoStack, IsInit, IsChain}
+use Rattle.world.specs.Kept.{IsCalling, IsOfActing, core_results, AreMadeBy, AreTyped, IsKeptBy}
+use Rattle.world.proofs.Changed.{changed_length}
+use Rattle.world.proofs.Ordered.{init_acting, init_changed}
 use Rattle.world.specs.declared.state.RunState.{RunState}
 use Rattle.world.specs.Parts.{LeadsTo, Meets, with_room, WithUsed, IsSafe}
 use Rattle.world.specs.Stacks.{StackLeads}

@@ -9,8 +9,8 @@ use Rattle.wasm_code.specs.declared.instance.External as ofStore
 use Rattle.wasm_store.specs.Views.{address_of}
 use Rattle.comp_graph.specs.declared.graph.CoreExtern.{CoreExtern}
 use Rattle.comp_graph.specs.Graph.{CoreMake}
-use Rattle.canonical_machine.proofs.Imports.{ImportsAreThere}
-use Rattle.canonical_machine.specs.Reading.{external_of, externals}
+use Rattle.world.proofs.Imports.{ImportsAreThere}
+use Rattle.world.specs.Reading.{external_of, externals}
 
 some_inj : {A : Type 0} {x y : A} → ◌≡◌ {A = Option A} (Some x) (Some y) → x ≡ y
 some_inj h = cc

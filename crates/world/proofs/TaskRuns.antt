@@ -15,23 +15,23 @@ use Rattle.wasm_execution.specs.declared.running.Outcome.{Outcome}
 use Rattle.wasm_execution.specs.declared.running.Outcome.TheVariants as outcome
 use Rattle.comp_graph.specs.declared.graph.CanonFunc.{CanonFunc}
 use Rattle.comp_graph.specs.Graph.{Graph, Lifted}
-use Rattle.canonical_machine.specs.Synchronous.{canon_type}
+use Rattle.world.specs.Synchronous.{canon_type}
 use Rattle.script_reader.specs.Script.{Script}
-use Rattle.trace_show.specs.declared.label.Label.{Label}
-use Rattle.trace_show.specs.declared.trap.TrapName.{TrapName}
-use Rattle.canonical_machine.specs.declared.run_end.RunEnd.TheVariants.{Trapped, Fuel}
-use Rattle.canonical_machine.specs.Traps.{core_name}
-use Rattle.canonical_machine.specs.Control.{Control, Runs, Calls, Doomed}
-use Rattle.canonical_machine.specs.World.{Init, Func, Task, World, first_world}
-use Rattle.canonical_machine.specs.Edits.{changed_at, with_stack}
-use Rattle.canonical_machine.specs.Reading.{lifted_of}
-use Rattle.canonical_machine.specs.Run.{RunsFrom}
-use Rattle.canonical_machine.specs.Sound.{IsSound}
-use Rattle.canonical_machine.specs.Owners.{IsApart}
-use Rattle.canonical_machine.specs.Tasks.{AreWaiting, IsBegun, IsRunning, IsChain}
-use Rattle.canonical_machine.specs.Kept.{core_results, params_by, results_by, AreMadeBy, AreTyped, IsCalling, IsOfActing, IsKeptBy}
-use Rattle.canonical_machine.proofs.Changed.{changed_length, changed_there, changed_other}
-use Rattle.canonical_machine.proofs.Graphs.{hosts_of}
+use Rattle.trace_labels.specs.declared.label.Label.{Label}
+use Rattle.trace_labels.specs.declared.trap.TrapName.{TrapName}
+use Rattle.world.specs.declared.run_end.RunEnd.TheVariants.{Trapped, Fuel}
+use Rattle.world.specs.Traps.{core_name}
+use Rattle.world.specs.Control.{Control, Runs, Calls, Doomed}
+use Rattle.world.specs.World.{Init, Func, Task, World, first_world}
+use Rattle.world.specs.Edits.{changed_at, with_stack}
+use Rattle.world.specs.Reading.{lifted_of}
+use Rattle.world.specs.Run.{RunsFrom}
+use Rattle.world.specs.Sound.{IsSound}
+use Rattle.world.specs.Owners.{IsApart}
+use Rattle.world.specs.Tasks.{AreWaiting, IsBegun, IsRunning, IsChain}
+use Rattle.world.specs.Kept.{core_results, params_by, results_by, AreMadeBy, AreTyped, IsCalling, IsOfActing, IsKeptBy}
+use Rattle.world.proofs.Changed.{changed_length, changed_there, changed_other}
+use Rattle.world.proofs.Graphs.{hosts_of}
 use Rattle.world.specs.declared.state.Waiter.{Waiter}
 use Rattle.world.specs.declared.state.RunState.{RunState}
 use Rattle.world.specs.Parts.{LeadsTo, with_room, WithUsed, IsSafe}

@@ -2,7 +2,7 @@
 use Rattle.std.specs.Option.{IsSome, IfSome}
 use Rattle.wasm_store.specs.Store.{Store}
 use Rattle.comp_graph.specs.declared.graph.Options.{Options}
-use Rattle.canonical_machine.specs.Reading.{address_in, func_address}
+use Rattle.world.specs.Reading.{address_in, func_address}
 
 -- The memory and the realloc of options are there, where the options have them.
 pub record HasOptions (s : Store) (options : Options) : Type 0 where

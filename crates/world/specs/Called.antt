@@ -2,7 +2,7 @@
 use Rattle.std.specs.Prelude.{◌≡◌}
 use Rattle.comp_graph.specs.Graph.{Lifted}
 use Rattle.comp_graph.specs.Passed.{ArePassed}
-use Rattle.canonical_machine.specs.World.{Func, Task}
+use Rattle.world.specs.World.{Func, Task}
 use Rattle.world.specs.declared.called.CalledFunc.{CalledFunc}
 
 -- what is lifted, as a function of a graph

@@ -2,7 +2,7 @@
 -- tasks that wait, the items that are taken, the tasks that are made, and the lines.
 use Rattle.std.specs.Prelude.{◌≡◌, ◌≤◌, ◌<◌, ◌+◌, [], ◌∷◌, ◌++◌}
 use Rattle.wasm_store.specs.Stack.{Stack, Running, AtHost, Given}
-use Rattle.trace_show.specs.declared.label.Label.{Label}
+use Rattle.trace_labels.specs.declared.label.Label.{Label}
 use Rattle.world.specs.declared.running.Stop.{Stop}
 use Rattle.world.specs.declared.running.Stop.TheVariants as stop
 use Rattle.world.specs.declared.state.Waiter.{Waiter}

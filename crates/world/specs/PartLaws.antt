@@ -3,13 +3,13 @@
 use Rattle.std.specs.Prelude.{◌≢◌, List, ◌++◌}
 use Rattle.comp_graph.specs.Graph.{Graph}
 use Rattle.script_reader.specs.Script.{Script}
-use Rattle.trace_show.specs.declared.label.Label.{Label}
-use Rattle.canonical_machine.specs.declared.run_end.RunEnd.{RunEnd}
-use Rattle.canonical_machine.specs.World.{World, first_world}
-use Rattle.canonical_machine.specs.Turn.{Turn, Steps, Ends, Stuck}
-use Rattle.canonical_machine.specs.Run.{RunsFrom}
-use Rattle.canonical_machine.specs.Sound.{IsSound}
-use Rattle.canonical_machine.specs.Owners.{IsApart}
+use Rattle.trace_labels.specs.declared.label.Label.{Label}
+use Rattle.world.specs.declared.run_end.RunEnd.{RunEnd}
+use Rattle.world.specs.World.{World, first_world}
+use Rattle.world.specs.Turn.{Turn, Steps, Ends, Stuck}
+use Rattle.world.specs.Run.{RunsFrom}
+use Rattle.world.specs.Sound.{IsSound}
+use Rattle.world.specs.Owners.{IsApart}
 use Rattle.world.specs.Parts.{LeadsTo, Meets, IsSafe}
 
 -- Behind a part there is another part, something that comes next, or the rest of a run.

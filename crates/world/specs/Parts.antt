@@ -4,14 +4,14 @@ use Rattle.std.specs.Prelude.{◌≡◌, ◌+◌, ℕ, List}
 use Rattle.wasm_store.specs.Store.{Store}
 use Rattle.comp_graph.specs.Graph.{Graph}
 use Rattle.script_reader.specs.Script.{Script}
-use Rattle.trace_show.specs.declared.label.Label.{Label}
-use Rattle.canonical_machine.specs.Control.{Control}
-use Rattle.canonical_machine.specs.World.{World}
-use Rattle.canonical_machine.specs.Turn.{Turn}
-use Rattle.canonical_machine.specs.Next.{next}
-use Rattle.canonical_machine.specs.Run.{Reaches, lines_of}
-use Rattle.canonical_machine.specs.KeptLaws.{IsKept}
-use Rattle.canonical_machine.specs.Owners.{IsApart, IsApartWorld}
+use Rattle.trace_labels.specs.declared.label.Label.{Label}
+use Rattle.world.specs.Control.{Control}
+use Rattle.world.specs.World.{World}
+use Rattle.world.specs.Turn.{Turn}
+use Rattle.world.specs.Next.{next}
+use Rattle.world.specs.Run.{Reaches, lines_of}
+use Rattle.world.specs.KeptLaws.{IsKept}
+use Rattle.world.specs.Owners.{IsApart, IsApartWorld}
 
 -- Steps with these lines lead from the one world to the other.
 abbrev pub LeadsTo : Graph → Script → World → List Label → World → Type 0

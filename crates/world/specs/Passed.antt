@@ -12,11 +12,11 @@ use Rattle.comp_graph.specs.declared.graph.Lower.{Lower}
 use Rattle.comp_graph.specs.Graph.{Graph, Lifted}
 use Rattle.comp_graph.specs.Needs.{lowered_type}
 use Rattle.script_reader.specs.Script.{Script}
-use Rattle.canonical_machine.specs.Control.{Lowers}
-use Rattle.canonical_machine.specs.World.{Func, Caller}
-use Rattle.canonical_machine.specs.Passing.{params_type, arguments_plan}
-use Rattle.canonical_machine.specs.Entering.{arguments_of, arguments_lowering}
-use Rattle.canonical_machine.specs.Reading.{lower_at}
+use Rattle.world.specs.Control.{Lowers}
+use Rattle.world.specs.World.{Func, Caller}
+use Rattle.world.specs.Passing.{params_type, arguments_plan}
+use Rattle.world.specs.Entering.{arguments_of, arguments_lowering}
+use Rattle.world.specs.Reading.{lower_at}
 use Rattle.world.specs.declared.state.Waiter.{Waiter}
 use Rattle.world.specs.declared.state.RunState.{RunState}
 use Rattle.world.specs.Addresses.{HasOptions}

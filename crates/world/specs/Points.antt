@@ -5,12 +5,12 @@ use Rattle.std.specs.List.{slice_get}
 use Rattle.wasm_store.specs.Stack.{Stack}
 use Rattle.comp_graph.specs.Graph.{Graph, Lifted}
 use Rattle.script_reader.specs.Script.{Script}
-use Rattle.trace_show.specs.declared.label.Label.{Label}
-use Rattle.canonical_machine.specs.Control.{Nested, Going, BeforeLeaving, Quiet, Back, Leaves}
-use Rattle.canonical_machine.specs.World.{Func, Subtask, Guest, AfterCall, Task, World, first_world}
-use Rattle.canonical_machine.specs.Returning.{finished}
-use Rattle.canonical_machine.specs.Turn.{behind}
-use Rattle.canonical_machine.specs.Tasks.{IsAt}
+use Rattle.trace_labels.specs.declared.label.Label.{Label}
+use Rattle.world.specs.Control.{Nested, Going, BeforeLeaving, Quiet, Back, Leaves}
+use Rattle.world.specs.World.{Func, Subtask, Guest, AfterCall, Task, World, first_world}
+use Rattle.world.specs.Returning.{finished}
+use Rattle.world.specs.Turn.{behind}
+use Rattle.world.specs.Tasks.{IsAt}
 use Rattle.world.specs.declared.state.Waiter.{Waiter}
 use Rattle.world.specs.declared.state.RunState.{RunState}
 use Rattle.world.specs.Parts.{Meets}

@@ -4,13 +4,13 @@ use Rattle.std.specs.Prelude.{◌≡◌, ℕ, List, [], ◌∷◌, ◌++◌, Som
 use Rattle.std.specs.List.{slice_get}
 use Rattle.comp_graph.specs.declared.graph.CanonFunc.{CanonFunc}
 use Rattle.comp_graph.specs.Graph.{Graph}
-use Rattle.trace_show.specs.declared.builtin.Builtin.{Builtin}
-use Rattle.trace_show.specs.declared.label.Label.{Label}
-use Rattle.trace_show.specs.declared.label.Label.TheVariants as line
-use Rattle.trace_show.specs.declared.trap.TrapName.TheVariants as trap
-use Rattle.canonical_machine.specs.declared.run_end.RunEnd.{RunEnd}
-use Rattle.canonical_machine.specs.declared.run_end.RunEnd.TheVariants.{Trapped}
-use Rattle.canonical_machine.specs.Reading.{builtin_of}
+use Rattle.trace_labels.specs.declared.builtin.Builtin.{Builtin}
+use Rattle.trace_labels.specs.declared.label.Label.{Label}
+use Rattle.trace_labels.specs.declared.label.Label.TheVariants as line
+use Rattle.trace_labels.specs.declared.trap.TrapName.TheVariants as trap
+use Rattle.world.specs.declared.run_end.RunEnd.{RunEnd}
+use Rattle.world.specs.declared.run_end.RunEnd.TheVariants.{Trapped}
+use Rattle.world.specs.Reading.{builtin_of}
 
 -- The core function of the Canonical ABI of a number was called with words: one more line tells the call by the task for which the code
 -- acts, and the run ends with a trap of the task that is named.

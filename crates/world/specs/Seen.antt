@@ -11,14 +11,14 @@ use Rattle.comp_graph.specs.Graph.{Graph, Lifted, func_named}
 use Rattle.script_reader.specs.declared.script.Call.{Call}
 use Rattle.script_reader.specs.declared.script.Item.TheVariants as item
 use Rattle.script_reader.specs.Script.{Script}
-use Rattle.canonical_machine.specs.declared.run_end.RunEnd.{RunEnd}
-use Rattle.canonical_machine.specs.Control.{Free, Instantiates, Runs, Calls, Arrives}
-use Rattle.canonical_machine.specs.World.{Func, Host, Guest, Task, World, first_world}
-use Rattle.canonical_machine.specs.Reading.{lower_at, lifted_of}
-use Rattle.canonical_machine.specs.Calling.{called_by}
-use Rattle.canonical_machine.specs.Tasks.{IsAt}
-use Rattle.canonical_machine.specs.Kept.{params_by, results_by}
-use Rattle.canonical_machine.specs.Run as canonical
+use Rattle.world.specs.declared.run_end.RunEnd.{RunEnd}
+use Rattle.world.specs.Control.{Free, Instantiates, Runs, Calls, Arrives}
+use Rattle.world.specs.World.{Func, Host, Guest, Task, World, first_world}
+use Rattle.world.specs.Reading.{lower_at, lifted_of}
+use Rattle.world.specs.Calling.{called_by}
+use Rattle.world.specs.Tasks.{IsAt}
+use Rattle.world.specs.Kept.{params_by, results_by}
+use Rattle.world.specs.Run as canonical
 use Rattle.world.specs.declared.state.Waiter.{Waiter}
 use Rattle.world.specs.declared.state.RunState.{RunState}
 use Rattle.world.specs.Parts.{LeadsTo}

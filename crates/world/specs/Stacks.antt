@@ -11,16 +11,16 @@ use Rattle.wasm_execution.specs.declared.running.Outcome.TheVariants as outcome
 use Rattle.comp_graph.specs.declared.graph.CanonFunc.{CanonFunc}
 use Rattle.comp_graph.specs.Graph.{Graph}
 use Rattle.script_reader.specs.Script.{Script}
-use Rattle.trace_show.specs.declared.label.Label.TheVariants as line
-use Rattle.trace_show.specs.declared.trap.TrapName.TheVariants as trap
-use Rattle.canonical_machine.specs.declared.run_end.RunEnd.TheVariants.{Fuel}
-use Rattle.canonical_machine.specs.Traps.{core_name}
-use Rattle.canonical_machine.specs.Control.{Free, Nested, Going, BeforeLeaving, Runs, Calls, Quiet, Leaves, Doomed}
-use Rattle.canonical_machine.specs.World.{Task, World}
-use Rattle.canonical_machine.specs.Edits.{with_stack, unstacked}
-use Rattle.canonical_machine.specs.Reading.{builtin_of}
-use Rattle.canonical_machine.specs.CoreSteps.{stack_ended}
-use Rattle.canonical_machine.specs.Run.{RunsFrom}
+use Rattle.trace_labels.specs.declared.label.Label.TheVariants as line
+use Rattle.trace_labels.specs.declared.trap.TrapName.TheVariants as trap
+use Rattle.world.specs.declared.run_end.RunEnd.TheVariants.{Fuel}
+use Rattle.world.specs.Traps.{core_name}
+use Rattle.world.specs.Control.{Free, Nested, Going, BeforeLeaving, Runs, Calls, Quiet, Leaves, Doomed}
+use Rattle.world.specs.World.{Task, World}
+use Rattle.world.specs.Edits.{with_stack, unstacked}
+use Rattle.world.specs.Reading.{builtin_of}
+use Rattle.world.specs.CoreSteps.{stack_ended}
+use Rattle.world.specs.Run.{RunsFrom}
 use Rattle.world.specs.Parts.{LeadsTo, Meets, with_room, WithUsed, IsSafe}
 
 -- The acting task runs a stack.

@@ -9,15 +9,15 @@ use Rattle.wasm_store.specs.Instantiation.{start_call}
 use Rattle.wasm_store.specs.Typed.{HasContext, module_context}
 use Rattle.comp_graph.specs.Graph.{Graph}
 use Rattle.script_reader.specs.Script.{Script}
-use Rattle.trace_show.specs.declared.trap.TrapName.TheVariants as trap
-use Rattle.canonical_machine.specs.declared.run_end.RunEnd.{RunEnd}
-use Rattle.canonical_machine.specs.declared.run_end.RunEnd.TheVariants.{Trapped}
-use Rattle.canonical_machine.specs.Control.{Free, Instantiates, Runs}
-use Rattle.canonical_machine.specs.World.{Begins, World, first_world}
-use Rattle.canonical_machine.specs.Edits.{with_control, with_store}
-use Rattle.canonical_machine.specs.Instantiating.{started_up}
-use Rattle.canonical_machine.specs.Next.{next}
-use Rattle.canonical_machine.specs.Tasks.{IsInit}
+use Rattle.trace_labels.specs.declared.trap.TrapName.TheVariants as trap
+use Rattle.world.specs.declared.run_end.RunEnd.{RunEnd}
+use Rattle.world.specs.declared.run_end.RunEnd.TheVariants.{Trapped}
+use Rattle.world.specs.Control.{Free, Instantiates, Runs}
+use Rattle.world.specs.World.{Begins, World, first_world}
+use Rattle.world.specs.Edits.{with_control, with_store}
+use Rattle.world.specs.Instantiating.{started_up}
+use Rattle.world.specs.Next.{next}
+use Rattle.world.specs.Tasks.{IsInit}
 use Rattle.world.specs.declared.state.RunState.{RunState}
 use Rattle.world.specs.Parts.{LeadsTo}
 use Rattle.world.specs.Seen.{Sees, IsAtWorld, EndsBy}

@@ -3,9 +3,9 @@ use Rattle.std.specs.Prelude.{◌≡◌, ◌⊎◌, ℕ}
 use Rattle.wasm_store.specs.declared.trap.Trap.{Trap}
 use Rattle.comp_graph.specs.Graph.{Graph}
 use Rattle.script_reader.specs.Script.{Script}
-use Rattle.canonical_machine.specs.declared.run_end.RunEnd.{RunEnd}
-use Rattle.canonical_machine.specs.declared.run_end.RunEnd.TheVariants.{Trapped, Fuel}
-use Rattle.canonical_machine.specs.Traps.{core_name}
+use Rattle.world.specs.declared.run_end.RunEnd.{RunEnd}
+use Rattle.world.specs.declared.run_end.RunEnd.TheVariants.{Trapped, Fuel}
+use Rattle.world.specs.Traps.{core_name}
 use Rattle.world.specs.declared.state.RunState.{RunState}
 use Rattle.world.specs.declared.running.Stop.{Stop}
 use Rattle.world.specs.declared.running.Stop.TheVariants as stop

@@ -2,7 +2,7 @@
 
 ghost use Rattle.std.specs.Prelude.{◌≡◌, Some};
 ghost use Rattle.std.specs.Option.{IsSome};
-ghost use Rattle.canonical_machine.specs.Reading.{address_in, func_address, memory_of, realloc_of, bytes_of};
+ghost use Rattle.world.specs.Reading.{address_in, func_address, memory_of, realloc_of, bytes_of};
 ghost use Rattle.world.specs.Addresses.{HasOptions};
 
 use comp_graph::{CoreRef, FuncRef, Options};

@@ -7,9 +7,9 @@ ghost use Rattle.ca_types.specs.declared.value.Value.TheViews as values;
 ghost use Rattle.ca_types.specs.Ends.{has_end};
 ghost use Rattle.laid_types.specs.Handles.{has_handle};
 ghost use Rattle.comp_graph.specs.declared.graph.Lower.{Lower};
-ghost use Rattle.canonical_machine.specs.World.{Task};
-ghost use Rattle.canonical_machine.specs.Passing.{arguments_lifted, params_type};
-ghost use Rattle.canonical_machine.specs.Reading.{lower_at, memory_of, bytes_of};
+ghost use Rattle.world.specs.World.{Task};
+ghost use Rattle.world.specs.Passing.{arguments_lifted, params_type};
+ghost use Rattle.world.specs.Reading.{lower_at, memory_of, bytes_of};
 ghost use Rattle.world.specs.Seen.{IsCalled, waiters};
 ghost use Rattle.world.specs.Passed.{TakeWords, Passes, CanPass, IsPassedBy};
 

@@ -6,8 +6,8 @@ ghost use Rattle.ca_types.specs.declared.exports.Export.{Export};
 ghost use Rattle.comp_graph.specs.declared.graph.Lower.{Lower};
 ghost use Rattle.script_reader.specs.declared.script.Call.{Call};
 ghost use Rattle.comp_graph.specs.Graph.{Lifted, func_named};
-ghost use Rattle.canonical_machine.specs.World.{Task};
-ghost use Rattle.canonical_machine.specs.Reading.{lower_at, lifted_of};
+ghost use Rattle.world.specs.World.{Task};
+ghost use Rattle.world.specs.Reading.{lower_at, lifted_of};
 ghost use Rattle.world.specs.Seen.{IsCalled, IsScriptCall, waiters};
 ghost use Rattle.world.specs.Called.{IsFunc, IsRunBy};
 

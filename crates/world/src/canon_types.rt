@@ -8,7 +8,7 @@ ghost use Rattle.ca_types.specs.Flat.{at_most, flat_payload, out_place, returned
 ghost use Rattle.comp_graph.specs.declared.graph.CanonFunc.{CanonFunc};
 ghost use Rattle.comp_graph.specs.Needs.{core_val, lowered_type};
 ghost use Rattle.comp_graph.specs.Passed.{ArePassed};
-ghost use Rattle.canonical_machine.specs.Synchronous.{canon_type};
+ghost use Rattle.world.specs.Synchronous.{canon_type};
 
 use ca_base::{Memory, Seq};
 use ca_types::CoreType;

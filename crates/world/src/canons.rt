@@ -4,10 +4,10 @@ ghost use Rattle.std.specs.Prelude.{◌≡◌, ◌<◌, length, Some};
 ghost use Rattle.std.specs.List.{slice_get};
 ghost use Rattle.std.specs.Option.{IsSome};
 ghost use Rattle.comp_graph.specs.declared.graph.CanonFunc.{CanonFunc};
-ghost use Rattle.canonical_machine.specs.Reading.{builtin_of, lower_of};
+ghost use Rattle.world.specs.Reading.{builtin_of, lower_of};
 
 use comp_graph::{CanonFunc, Graph, Lower};
-use trace_show::Builtin;
+use trace_labels::Builtin;
 
 /// The core function of the Canonical ABI of a number.
 pub fn canon_at<'g>(graph: &'g Graph<'_>, number: usize) -> &'g CanonFunc

@@ -5,7 +5,7 @@ ghost use Rattle.trace_show.specs.DumpText.{dump_text};
 
 use ca_base::{Bytes, Memory, Seq};
 use std::alloc::Global;
-use trace_show::{Dump, LiveEntry};
+use trace_labels::{Dump, LiveEntry};
 use wasm_store::Store;
 
 /// The table of each component instance that has begun, without entries.

@@ -3,7 +3,7 @@
 ghost use Rattle.std.specs.Prelude.{◌≡◌, List, Some, IfOk, map};
 ghost use Rattle.wasm_store.specs.Instantiation.{External as Address};
 ghost use Rattle.wasm_store.specs.Views.{address_of};
-ghost use Rattle.canonical_machine.specs.Reading.{external_of, externals};
+ghost use Rattle.world.specs.Reading.{external_of, externals};
 
 use ca_base::{Memory, Seq};
 use comp_graph::{CoreExtern, FuncRef};

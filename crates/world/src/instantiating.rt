@@ -2,21 +2,21 @@
 
 ghost use Rattle.std.specs.Prelude.{◌≡◌, ◌+◌, ◌<◌, ◌^◌, ℕ, Some, IfOk, length};
 ghost use Rattle.std.specs.List.{slice_get};
-ghost use Rattle.canonical_machine.specs.Sound.{IsSound};
-ghost use Rattle.canonical_machine.specs.Owners.{IsApart};
+ghost use Rattle.world.specs.Sound.{IsSound};
+ghost use Rattle.world.specs.Owners.{IsApart};
 ghost use Rattle.world.specs.Seen.{IsAtPlan, IsAtFree};
 ghost use Rattle.world.specs.Starting.{GoesOrEnds, MayEndInstantiation};
 ghost use Rattle.world.specs.Changes.{TakesNone};
 
 use crate::externals::externals_of;
+use crate::run_end::RunEnd;
 use crate::starting::start_up;
 use crate::state::RunState;
 use ca_base::Memory;
-use canonical_machine::RunEnd;
 use comp_graph::{Action, CoreMake, Graph};
 use script_reader::Script;
 use std::alloc::Global;
-use trace_show::TrapName;
+use trace_labels::TrapName;
 use wasm_store::AddFault;
 
 /// Instantiates a graph, and answers how the run ends, if it does so there (Component Model, Explainer.md, "Instance Definitions"; Core

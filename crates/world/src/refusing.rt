@@ -4,10 +4,10 @@ ghost use Rattle.std.specs.Prelude.{◌<◌, IfOk, length};
 ghost use Rattle.world.specs.Refusing.{IsRefused};
 
 use crate::canons::builtin_of;
+use crate::run_end::RunEnd;
 use ca_base::{Memory, Seq};
-use canonical_machine::RunEnd;
 use comp_graph::Graph;
-use trace_show::{Label, TrapName};
+use trace_labels::{Label, TrapName};
 use wasm_execution::Words;
 
 /// Tells a call of the core function of the Canonical ABI of this number with these words, which is a trap (Component Model,

@@ -10,9 +10,9 @@ ghost use Rattle.laid_types.specs.Handles.{has_handle};
 ghost use Rattle.wasm_numbers.specs.Types.{AreWords};
 ghost use Rattle.comp_graph.specs.Needs.{core_val, lifted_type};
 ghost use Rattle.comp_graph.specs.Passed.{ArePassed};
-ghost use Rattle.canonical_machine.specs.Passing.{result_lifted};
-ghost use Rattle.canonical_machine.specs.Reading.{memory_of, bytes_of};
-ghost use Rattle.canonical_machine.specs.Returning.{result_of};
+ghost use Rattle.world.specs.Passing.{result_lifted};
+ghost use Rattle.world.specs.Reading.{memory_of, bytes_of};
+ghost use Rattle.world.specs.Returning.{result_of};
 ghost use Rattle.world.specs.Addresses.{HasOptions};
 
 use crate::addresses::{bytes_of, memory_of};
@@ -20,7 +20,7 @@ use crate::called::CalledFunc;
 use ca_types::Value;
 use laid_types::LaidType;
 use std::alloc::Global;
-use trace_show::TypedValue;
+use trace_labels::TypedValue;
 use value_lift::{LiftError, LiftOf, lift_flat_bare, load_bare};
 use wasm_store::Store;
 

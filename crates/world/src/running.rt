@@ -1,16 +1,16 @@
 //! Runs of the acting task's stack.
 
 ghost use Rattle.std.specs.Prelude.{IfOk};
-ghost use Rattle.canonical_machine.specs.Sound.{IsSound};
-ghost use Rattle.canonical_machine.specs.Owners.{IsApart};
+ghost use Rattle.world.specs.Sound.{IsSound};
+ghost use Rattle.world.specs.Owners.{IsApart};
 ghost use Rattle.world.specs.Seen.{IsAtStack};
 ghost use Rattle.world.specs.Stopping.{StopsAt};
 ghost use Rattle.world.specs.Changes.{Stopped, TellsNone};
 
+use crate::run_end::RunEnd;
 use crate::state::{RunState, Waiter};
 use crate::trap_names::core_name;
 use ca_base::Memory;
-use canonical_machine::RunEnd;
 use comp_graph::Graph;
 use script_reader::Script;
 use std::alloc::Global;

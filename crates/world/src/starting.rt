@@ -1,17 +1,17 @@
 //! Start functions of core instances.
 
 ghost use Rattle.std.specs.Prelude.{◌<◌, IfOk, Some};
-ghost use Rattle.canonical_machine.specs.Sound.{IsSound};
-ghost use Rattle.canonical_machine.specs.Owners.{IsApart};
+ghost use Rattle.world.specs.Sound.{IsSound};
+ghost use Rattle.world.specs.Owners.{IsApart};
 ghost use Rattle.world.specs.Seen.{IsAtPlan};
 ghost use Rattle.world.specs.Starting.{IsStarting, IsAtStart, GoesOrEnds, MayEndInstantiation};
 ghost use Rattle.world.specs.Changes.{TakesNone};
 
 use crate::refusing::refuse;
+use crate::run_end::RunEnd;
 use crate::state::RunState;
 use crate::trap_names::core_name;
 use ca_base::Memory;
-use canonical_machine::RunEnd;
 use comp_graph::Graph;
 use script_reader::Script;
 use std::alloc::Global;

@@ -4,13 +4,13 @@ ghost use Rattle.std.specs.Prelude.{◌≡◌, map, IfOk};
 ghost use Rattle.wasm_store.specs.Instantiation.{empty};
 ghost use Rattle.wasm_store.specs.Store.{Host};
 ghost use Rattle.comp_graph.specs.Graph.{Graph};
-ghost use Rattle.canonical_machine.specs.Synchronous.{canon_type};
+ghost use Rattle.world.specs.Synchronous.{canon_type};
 ghost use Rattle.world.specs.Seen.{IsAtPlan};
 
 use ca_base::{Fuel, Memory, Seq};
 use script_reader::Script;
 use std::alloc::Global;
-use trace_show::Label;
+use trace_labels::Label;
 use wasm_execution::{Suspended, Words};
 use wasm_module::FuncType;
 use wasm_store::Store;

@@ -4,21 +4,21 @@ ghost use Rattle.std.specs.Prelude.{◌≡◌, map, Some, IfOk, MatchResult};
 ghost use Rattle.std.specs.List.{slice_get};
 ghost use Rattle.ca_base.specs.Names.{first_named};
 ghost use Rattle.comp_graph.specs.Graph.{Lifted, names, func_named, func_at};
-ghost use Rattle.canonical_machine.specs.Calling.{typed};
-ghost use Rattle.canonical_machine.specs.Sound.{IsSound, IsSoundCall};
-ghost use Rattle.canonical_machine.specs.Owners.{IsApart};
+ghost use Rattle.world.specs.Calling.{typed};
+ghost use Rattle.world.specs.Sound.{IsSound, IsSoundCall};
+ghost use Rattle.world.specs.Owners.{IsApart};
 ghost use Rattle.world.specs.Seen.{IsAtFree, IsAtArrival, EndsBy};
 ghost use Rattle.world.specs.Changes.{TakesItem, TellsNone};
 
 use crate::copying::same_value;
 use crate::named_graph::NamedGraph;
+use crate::run_end::RunEnd;
 use crate::state::RunState;
 use ca_base::{Memory, Name, Seq};
 use ca_types::{Param, Value};
-use canonical_machine::RunEnd;
 use script_reader::{Call, Item, Script};
 use std::alloc::Global;
-use trace_show::{Label, TypedValue};
+use trace_labels::{Label, TypedValue};
 
 /// Takes the next item of the script, which costs a unit of fuel, and answers the task that is made, or how the run ends: by `Done`
 /// where no item is left, and by `Fuel` where no unit is left (Component Model, Concurrency.md, "Summary"). Its one line is that of the

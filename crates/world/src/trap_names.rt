@@ -1,10 +1,10 @@
 //! The names of traps.
 
 ghost use Rattle.std.specs.Prelude.{◌≡◌};
-ghost use Rattle.canonical_machine.specs.Traps.{core_name, lift_name, lower_name, refusal_name};
+ghost use Rattle.world.specs.Traps.{core_name, lift_name, lower_name, refusal_name};
 
 use res_handles::Refusal;
-use trace_show::TrapName;
+use trace_labels::TrapName;
 use value_lift::LiftWhy;
 use value_lower::LowerWhy;
 use wasm_store::Trap;

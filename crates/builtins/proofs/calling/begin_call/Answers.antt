@@ -1,7 +1,7 @@
 use Rattle.std.proofs.Common.{◌∙◌, ap, refl, rules, arith}
 use Rattle.std.specs.List.{slice_get}
 use Rattle.comp_graph.specs.Graph.{Graph}
-use Rattle.canonical_machine.specs.Reading.{lower_at}
+use Rattle.world.specs.Reading.{lower_at}
 use Rattle.builtins.proofs.Begun.{some_wait_in, caller_in, within_found, lowers_found, told_back, told_makes, another}
 use Rattle.builtins.proofs.Telling.{two_lines}
 use Rattle.builtins.proofs.calling.begin_call.Goals as goal

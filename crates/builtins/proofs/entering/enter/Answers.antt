@@ -1,8 +1,8 @@
 use Rattle.std.proofs.Common.{◌∙◌, ap, refl, subst, Err}
 use Rattle.ca_base.specs.declared.memory.MemoryOr.{MemoryOr}
 use Rattle.value_lift.specs.declared.trap.LiftTrap.{LiftTrap}
-use Rattle.canonical_machine.specs.Traps.{lift_name}
-use Rattle.canonical_machine.specs.World.{Task}
+use Rattle.world.specs.Traps.{lift_name}
+use Rattle.world.specs.World.{Task}
 use Rattle.world.specs.Seen.{IsCalled, waiters}
 use Rattle.world.specs.Passed.{IsPassedBy}
 use Rattle.builtins.proofs.Entries.{entry_passes, entry_holds_none, entry_options, entry_fits, enters_with, entry_fails}

@@ -3,7 +3,7 @@ use Rattle.std.specs.List.{slice_get}
 use Rattle.wasm_store.specs.Store.{Function}
 use Rattle.wasm_store.specs.Step.{start}
 use Rattle.comp_graph.specs.Graph.{Graph}
-use Rattle.canonical_machine.specs.Entering.{arguments_lowering}
+use Rattle.world.specs.Entering.{arguments_lowering}
 use Rattle.builtins.specs.declared.lower_values.Lowered.TheVariants as came
 use Rattle.world.specs.Called.{lifted_by}
 use Rattle.world.specs.Refusing.{IsRefused}

@@ -3,7 +3,7 @@ use Rattle.std.specs.List.{slice_get}
 use Rattle.std.specs.Option.{option_and_then}
 use Rattle.comp_graph.specs.Graph.{Graph}
 use Rattle.comp_graph.specs.declared.graph.CanonFunc.{CanonFunc}
-use Rattle.canonical_machine.specs.Reading.{lower_of, lower_at}
+use Rattle.world.specs.Reading.{lower_of, lower_at}
 use Rattle.wasm_numbers.specs.Types.{AreWords}
 use Rattle.comp_graph.specs.Needs.{lowered_type}
 use Rattle.world.specs.declared.state.Waiter.{Waiter}

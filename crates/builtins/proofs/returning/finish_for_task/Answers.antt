@@ -2,13 +2,13 @@ use Rattle.std.proofs.Common.{sym, ap, ◌∙◌, subst, Option, Err}
 use Rattle.ca_base.specs.declared.memory.MemoryOr.{MemoryOr}
 use Rattle.ca_base.specs.Faults.{MayMake}
 use Rattle.value_lift.specs.declared.trap.LiftTrap.{LiftTrap}
-use Rattle.trace_show.specs.declared.typed.TypedValue.{TypedValue}
-use Rattle.canonical_machine.specs.Traps.{lift_name}
-use Rattle.canonical_machine.specs.Reading.{memory_of, bytes_of}
-use Rattle.canonical_machine.specs.Returning.{result_of}
+use Rattle.trace_labels.specs.declared.typed.TypedValue.{TypedValue}
+use Rattle.world.specs.Traps.{lift_name}
+use Rattle.world.specs.Reading.{memory_of, bytes_of}
+use Rattle.world.specs.Returning.{result_of}
 use Rattle.comp_graph.specs.Graph.{Graph}
-use Rattle.canonical_machine.specs.Sound.{IsSound}
-use Rattle.canonical_machine.specs.Owners.{IsApart}
+use Rattle.world.specs.Sound.{IsSound}
+use Rattle.world.specs.Owners.{IsApart}
 use Rattle.builtins.proofs.Resolving.{task_called, has_options, result_fits, is_plain, holds_none, lift_fails}
 use Rattle.builtins.proofs.returning.finish_for_task.Goals as goal
 

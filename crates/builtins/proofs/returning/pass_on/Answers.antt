@@ -1,5 +1,5 @@
 use Rattle.std.proofs.Common.{inr, refl, sym, ap, ◌∙◌, subst, ℕ, List, Option, None, Ok}
-use Rattle.trace_show.specs.declared.typed.TypedValue.{TypedValue}
+use Rattle.trace_labels.specs.declared.typed.TypedValue.{TypedValue}
 use Rattle.world.specs.Called.{lifted_by}
 use Rattle.world.specs.Points.{IsAtFinish}
 use Rattle.builtins.proofs.Resolving.{resolves}

@@ -1,6 +1,6 @@
 use Rattle.value_lower.specs.Tables.{IsEntry}
 use Rattle.copy_engine.specs.Hosted.{hosted_rooms}
-use Rattle.canonical_machine.proofs.Followed.{followed_over}
+use Rattle.lowering_laws.proofs.Followed.{followed_over}
 use Rattle.value_laws.proofs.Arrived.{stored_arrive, lists_arrive, placed_arrive, lowered_arrive}
 use Rattle.value_laws.proofs.Tables.{store_has}
 use Rattle.value_laws.proofs.laws.elements_arrive.Goals as goal

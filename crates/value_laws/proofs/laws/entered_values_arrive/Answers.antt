@@ -1,5 +1,5 @@
 use Rattle.value_lower.specs.Tables.{tabled, IsEntry}
-use Rattle.canonical_machine.proofs.Followed.{followed_over}
+use Rattle.lowering_laws.proofs.Followed.{followed_over}
 use Rattle.value_laws.proofs.Arrived.{stored_arrive, lists_arrive, placed_arrive, lowered_arrive}
 use Rattle.value_laws.proofs.Tables.{room_has}
 use Rattle.value_laws.proofs.laws.entered_values_arrive.Goals as goal

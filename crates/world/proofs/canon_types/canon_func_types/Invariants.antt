@@ -1,6 +1,6 @@
 -- The types are those of the first core functions.
 use Rattle.std.proofs.Common.{◌≡◌, map, take}
-use Rattle.canonical_machine.specs.Synchronous.{canon_type}
+use Rattle.world.specs.Synchronous.{canon_type}
 use Rattle.world.proofs.canon_types.canon_func_types.Given as goal
 
 abbrev pub invariant-loop-number : goal.invariant-loop-number

@@ -1,6 +1,6 @@
 use Rattle.std.proofs.Common.{sym, ap, ◌∙◌, ℕ, Option}
 use Rattle.std.proofs.lemmas.Result.{err_from_is_err_and}
-use Rattle.canonical_machine.specs.Reading.{bytes_of}
+use Rattle.world.specs.Reading.{bytes_of}
 use Rattle.world.proofs.LiftedResults.{no_result}
 use Rattle.world.proofs.results.lifted_result.Goals as goal
 

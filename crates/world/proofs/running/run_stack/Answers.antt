@@ -1,6 +1,6 @@
 use Rattle.std.proofs.Common.{◌∙◌, ◌++◌, ◌∷◌, [], ap, refl, inl, inr}
-use Rattle.trace_show.specs.declared.trap.TrapName.{TrapName}
-use Rattle.canonical_machine.specs.declared.run_end.RunEnd.TheVariants.{Trapped}
+use Rattle.trace_labels.specs.declared.trap.TrapName.{TrapName}
+use Rattle.world.specs.declared.run_end.RunEnd.TheVariants.{Trapped}
 use Rattle.world.specs.declared.state.RunState.{RunState}
 use Rattle.world.proofs.TaskRuns.{stack_typed, stack_traps, stack_wants, stack_ends, stack_calls, reserved}
 use Rattle.world.specs.declared.state.Waiter.{Waiter}

@@ -1,6 +1,6 @@
 -- The values so far, and those of what is left.
 use Rattle.std.proofs.Common.{◌≡◌, ◌++◌, drop, map}
-use Rattle.canonical_machine.specs.Calling.{typed}
+use Rattle.world.specs.Calling.{typed}
 use Rattle.world.proofs.taking.typed_values.Given as goal
 
 abbrev pub invariant-loop-at : goal.invariant-loop-at

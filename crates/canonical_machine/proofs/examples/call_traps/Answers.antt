@@ -1,6 +1,0 @@
-use Rattle.canonical_machine.proofs.Samples.{reentrant, no_char, at_start}
-use Rattle.canonical_machine.proofs.MoreSamples.{itself, argument}
-use Rattle.canonical_machine.proofs.examples.call_traps.Goals as goal
-
-pub returns : goal.returns
-returns c = record { reentrant = reentrant; itself = itself; no_char = no_char; argument = argument; at_start = at_start }

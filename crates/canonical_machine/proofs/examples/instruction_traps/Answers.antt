@@ -1,5 +1,0 @@
-use Rattle.canonical_machine.proofs.MoreSamples.{traps, traps_wants}
-use Rattle.canonical_machine.proofs.examples.instruction_traps.Goals as goal
-
-pub returns : goal.returns
-returns c = record { traps = traps; wants = traps_wants }

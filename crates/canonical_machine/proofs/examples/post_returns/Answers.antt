@@ -1,5 +1,0 @@
-use Rattle.canonical_machine.proofs.MoreSamples.{post_return_exits, post_return_wants}
-use Rattle.canonical_machine.proofs.examples.post_returns.Goals as goal
-
-pub returns : goal.returns
-returns c = record { exits = post_return_exits; wants = post_return_wants }

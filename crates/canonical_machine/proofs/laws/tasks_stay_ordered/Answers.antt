@@ -1,5 +1,0 @@
-use Rattle.canonical_machine.proofs.OrderSteps.{first_ordered, order_stays}
-use Rattle.canonical_machine.proofs.laws.tasks_stay_ordered.Goals as goal
-
-pub returns : goal.returns
-returns c = record { first = first_ordered; stays = order_stays }

@@ -1,6 +1,0 @@
-use Rattle.canonical_machine.proofs.Apart.{never_stuck, one_next_apart}
-use Rattle.canonical_machine.proofs.ApartSteps.{first_apart, apart_stays}
-use Rattle.canonical_machine.proofs.laws.worlds_stay_apart.Goals as goal
-
-pub returns : goal.returns
-returns c = record { first = first_apart; stays = apart_stays; never_stuck = never_stuck; one_next = one_next_apart }

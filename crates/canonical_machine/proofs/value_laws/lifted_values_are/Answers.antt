@@ -1,5 +1,0 @@
-use Rattle.canonical_machine.proofs.LiftedValues.{loaded_values_are, loaded_lists_are, lifted_values_are}
-use Rattle.canonical_machine.proofs.value_laws.lifted_values_are.Goals as goal
-
-pub returns : goal.returns
-returns c = record { values = loaded_values_are; lists = loaded_lists_are; flat = lifted_values_are }

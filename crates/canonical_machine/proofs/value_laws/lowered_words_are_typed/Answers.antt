@@ -1,5 +1,0 @@
-use Rattle.canonical_machine.proofs.Widths.{lowered_words_are_typed, placed_words_are_typed}
-use Rattle.canonical_machine.proofs.value_laws.lowered_words_are_typed.Goals as goal
-
-pub returns : goal.returns
-returns c = record { flat = lowered_words_are_typed; placed = placed_words_are_typed }

@@ -1,5 +1,0 @@
-use Rattle.canonical_machine.proofs.Standing.{stored_values_are_loaded}
-use Rattle.canonical_machine.proofs.value_laws.stored_values_are_loaded.Goals as goal
-
-pub returns : goal.returns
-returns c = stored_values_are_loaded

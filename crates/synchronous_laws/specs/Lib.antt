@@ -1,0 +1,5 @@
+pub mod FuelLaws
+pub mod Ending
+pub mod Transport
+pub mod Examples
+pub mod TransportExamples
