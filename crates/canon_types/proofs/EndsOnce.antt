@@ -18,8 +18,8 @@ use Rattle.comp_graph.specs.Passed.{MayBeAt, TypeTable, HasCanonType, types_at}
 use Rattle.link_spec.specs.Same.{same_val}
 use Rattle.link_spec.specs.Ends.{ends_case, is_of_ends, is_type_among, noted, noted_type, noted_kind, noted_canon}
 use Rattle.link_spec.proofs.SameValues.{val_told}
-use Rattle.link_types.specs.declared.refs.TypeRef.{TypeRef}
-use Rattle.link_types.specs.declared.refs.TypeRef.TheVariants as type_ref
+use Rattle.link_values.specs.declared.refs.TypeRef.{TypeRef}
+use Rattle.link_values.specs.declared.refs.TypeRef.TheVariants as type_ref
 use Rattle.link_types.specs.Table.{Table, IsType}
 use Rattle.link_types.specs.Numbering.{AreApart}
 use Rattle.canon_types.specs.EndNumbers.{AreEndTypes, is_number_among, number_once, with_number, number_if_ends, type_number, kind_number, canon_number}

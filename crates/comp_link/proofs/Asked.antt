@@ -5,9 +5,9 @@ use Rattle.comp_graph.specs.Closed.{Closed, Value, Func, Resource, Instance, OfT
 use Rattle.link_spec.specs.Definitions.{Definition, AFunc, AType, AComponent, AnInstance, AModule}
 use Rattle.link_spec.specs.Items.{type_given}
 use Rattle.link_spec.specs.Types.{meant, resource_meant}
-use Rattle.link_types.specs.declared.refs.TypeRef.{TypeRef}
-use Rattle.link_types.specs.declared.refs.TypeRef.TheVariants as type_leaf
-use Rattle.link_types.specs.declared.refs.ExternRef.TheVariants as extern_ref
+use Rattle.link_values.specs.declared.refs.TypeRef.{TypeRef}
+use Rattle.link_values.specs.declared.refs.TypeRef.TheVariants as type_leaf
+use Rattle.link_values.specs.declared.refs.ExternRef.TheVariants as extern_ref
 use Rattle.link_types.specs.Table.{Table, IsType, IsExtern}
 use Rattle.link_instances.specs.declared.references.DefinitionRef.{DefinitionRef}
 use Rattle.link_instances.specs.declared.references.DefinitionRef.TheVariants as definition_ref
@@ -49,7 +49,7 @@ module _ (t : Table) (w : World) (given : Option DefinitionRef) (found : Option 
 
   pub asked_some : (n : ℕ) → number ≡ Some n → IsMeaning (IsExtern t) (record { is_there = true; missing = None; deep = false; means = Some (extern_ref.Type (type_leaf.Resource n)) }) (resource_meant (type_given d))
   asked_some n is =
-      rw (some_meant (type_given d) n (sym is ∙ number_is)) (record { is_there = refl; missing = refl; deep = refl; means = (OfType (Resource n), refl, refl) })
+      rw (some_meant (type_given d) n (sym is ∙ number_is)) (record { is_there = refl; missing = refl; deep = refl; has_room = refl; means = (OfType (Resource n), refl, refl) })
 
   pub asked_none : number ≡ None → IsMeaning (IsExtern t) (record { is_there = true; missing = None; deep = false; means = None }) (resource_meant (type_given d))
-  asked_none is = rw (none_meant (type_given d) (sym is ∙ number_is)) (record { is_there = refl; missing = refl; deep = refl; means = refl })
+  asked_none is = rw (none_meant (type_given d) (sym is ∙ number_is)) (record { is_there = refl; missing = refl; deep = refl; has_room = refl; means = refl })

@@ -19,9 +19,9 @@ use Rattle.link_spec.specs.Spaces.{Spaces, Linking}
 use Rattle.link_spec.specs.Canons.{Given, given_by, stand_once, is_option_there, can_be_lifted}
 use Rattle.link_spec.specs.Items.{instance_limit, core_made, lifted_with}
 use Rattle.link_spec.specs.Computed.{Makes, after, there_or, only_if, imports_outcome, core_instance_outcome, lifted_to, lifted_of}
-use Rattle.link_types.specs.declared.refs.FuncTypeRef.{FuncTypeRef}
-use Rattle.link_types.specs.declared.refs.TypeRef.{TypeRef}
-use Rattle.link_types.specs.declared.refs.TypeRef.TheVariants as type_ref
+use Rattle.link_values.specs.declared.refs.FuncTypeRef.{FuncTypeRef}
+use Rattle.link_values.specs.declared.refs.TypeRef.{TypeRef}
+use Rattle.link_values.specs.declared.refs.TypeRef.TheVariants as type_ref
 use Rattle.link_types.specs.Table.{Table, IsFunc, IsType}
 use Rattle.comp_link.specs.Told.{IsReason}
 use Rattle.comp_link.proofs.Told.{reason_after}

@@ -2,8 +2,8 @@
 use Rattle.std.proofs.Common.{◌≡◌, ℕ, refl, Option, Some, None}
 use Rattle.std.specs.Option.{option_and_then}
 use Rattle.comp_graph.specs.Closed.{Closed, Value, Func, Resource, Instance, value_of}
-use Rattle.link_types.specs.declared.refs.TypeRef.{TypeRef}
-use Rattle.link_types.specs.declared.refs.TypeRef.TheVariants as type_ref
+use Rattle.link_values.specs.declared.refs.TypeRef.{TypeRef}
+use Rattle.link_values.specs.declared.refs.TypeRef.TheVariants as type_ref
 use Rattle.link_types.specs.Table.{Table, IsValue, IsType}
 use Rattle.link_meanings.specs.Meant.{IsFoundAs}
 use Rattle.link_meanings.specs.References.{value_ref}

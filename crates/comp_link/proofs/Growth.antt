@@ -11,8 +11,8 @@ use Rattle.comp_graph.specs.Passed.{TypeTable, MayBeAt, HasCanonType, AreCanonTy
 use Rattle.canon_types.specs.EndNumbers.{AreEndTypes}
 use Rattle.link_spec.specs.Definitions.{Lifted, Closure, Exports}
 use Rattle.link_spec.specs.Spaces.{Spaces}
-use Rattle.link_types.specs.declared.refs.TypeRef.{TypeRef}
-use Rattle.link_types.specs.declared.refs.InstanceTypeRef.{InstanceTypeRef}
+use Rattle.link_values.specs.declared.refs.TypeRef.{TypeRef}
+use Rattle.link_values.specs.declared.refs.InstanceTypeRef.{InstanceTypeRef}
 use Rattle.link_types.specs.Table.{Table, Grows, IsType}
 use Rattle.link_types.proofs.TypesGrow.{func_stays, type_stays}
 use Rattle.link_instances.specs.declared.references.InstanceRef.{InstanceRef}

@@ -60,7 +60,7 @@ alias_sets l n s sort (target.Outer up index) new (d, is, e) = set_by l n _ new 
 type_sets : (l : Linking) (n : ℕ) (s : Spaces) (destructor : Option (Option ℕ)) (meaning : Meaning Closed) (new : Linking) → defined_makes l n s destructor meaning new → IsSet l n new
 type_sets l n s (Some None) meaning new e = (_, ap (λ (l : Linking). l.scopes) e)
 type_sets l n s (Some (Some f)) meaning new (item, core, is, of_item, of_type, e) = (_, ap (λ (l : Linking). l.scopes) e)
-type_sets l n s None meaning new (closed, is, e) = set_by (with_ends l (noted_type l.end_types closed)) n _ new e
+type_sets l n s None meaning new (closed, is, e) = set_by (with_ends l (noted_type l.end_types closed) meaning.has_room) n _ new e
 
 case_sets : (l : Linking) (n : ℕ) (s : Spaces) (shape : Item-F Item Component) (new : Linking) → makes_case l n s shape new → IsSet l n new
 case_sets l n s (Item-F.CoreModule m) new e = set_by l n _ new e

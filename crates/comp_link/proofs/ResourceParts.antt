@@ -16,8 +16,8 @@ use Rattle.link_spec.specs.Resources.{resource_written}
 use Rattle.link_spec.specs.Spaces.{Spaces, Linking}
 use Rattle.link_spec.specs.Items.{type_meaning}
 use Rattle.link_spec.specs.Computed.{Outcome, type_outcome, destructor_of, destructor_at, resource_outcome, defined_outcome}
-use Rattle.link_types.specs.declared.refs.TypeRef.{TypeRef}
-use Rattle.link_types.specs.declared.refs.TypeRef.TheVariants as type_ref
+use Rattle.link_values.specs.declared.refs.TypeRef.{TypeRef}
+use Rattle.link_values.specs.declared.refs.TypeRef.TheVariants as type_ref
 use Rattle.link_types.specs.Table.{Table, IsType}
 use Rattle.link_meanings.specs.Meant.{IsFoundAs}
 use Rattle.link_meanings.specs.References.{resource_ref}

@@ -45,6 +45,7 @@ state_stays bases more k m l types world instances scopes cores canons canon_typ
   resources = h.resources ∙ ap (λ resources. resources.items) (sym resources);
   plan = h.plan ∙ ap (λ plan. plan.items) (sym plan);
   ends = subst (λ (numbers : List ℕ). AreEndTypes m.types.values numbers l.end_types) (sym ends) (ends_stay k.types m.types types k.end_types l.end_types h.ends);
+  room = h.room;
 }
 
 -- more types
@@ -61,6 +62,7 @@ types_grow bases k m l grows same h = subst (λ (v : Linker). IsState bases v l)
       resources = h.resources;
       plan = h.plan;
       ends = ends_stay k.types m.types grows k.end_types l.end_types h.ends;
+      room = h.room;
     }
 
 pub at_grows : (bases : List Exports) (k m : Linker) (n : ℕ) (l : Linking) (s : Spaces) → Grows k.types m.types → m ≡ record k { types = m.types } → IsAt bases k n l s → IsAt bases m n l s
@@ -101,6 +103,7 @@ scope_set bases k n l s next old new is within becomes at = record {
   resources = at.state.resources;
   plan = at.state.plan;
   ends = at.state.ends;
+  room = at.state.room;
 }
 
 pub ended_set : (k : Linker) (n : ℕ) (old new : Scope) → old ≡ get_or k.scopes.items n old → n < length k.scopes.items → new.ended ≡ old.ended → ended (record k { scopes = with_item k.scopes n new }) ≡ ended k
@@ -118,6 +121,7 @@ scope_ended bases k n l old new is within types components over h = record {
   resources = h.resources;
   plan = h.plan;
   ends = h.ends;
+  room = h.room;
 }
   where
     kept : (s : Spaces) → IsKept k.types (world_of bases k) old s → IsKept k.types (world_of bases k) new s
@@ -141,8 +145,8 @@ pub last_live : (k m : Linker) (n : ℕ) → ended m ≡ ended k ++ false ∷ []
 last_live k m n more is = last_is (ended k) (ended m) false n more (is ∙ sym (length-map k.scopes.items (λ (scope : Scope). scope.ended)))
 
 -- other types of streams and futures
-pub ends_noted : (bases : List Exports) (k : Linker) (l : Linking) (numbers : List ℕ) (types : List ValType) → AreEndTypes k.types.values numbers types → IsState bases k l → IsState bases (record k { end_types = numbers }) (with_ends l types)
-ends_noted bases k l numbers types ends h = record { instances = h.instances; scopes = h.scopes; cores = h.cores; canons = h.canons; canon_types = h.canon_types; resources = h.resources; plan = h.plan; ends = ends }
+pub ends_noted : (bases : List Exports) (k : Linker) (l : Linking) (numbers : List ℕ) (types : List ValType) → AreEndTypes k.types.values numbers types → IsState bases k l → IsState bases (record k { end_types = numbers }) (with_ends l types true)
+ends_noted bases k l numbers types ends h = record { instances = h.instances; scopes = h.scopes; cores = h.cores; canons = h.canons; canon_types = h.canon_types; resources = h.resources; plan = h.plan; ends = ends; room = h.room }
 
 -- more components, and more core modules
 pub components_more : (bases : List Exports) (k m : Linker) (n : ℕ) (l : Linking) (s : Spaces) (c : Closure)
@@ -191,7 +195,7 @@ pub instance_given : (bases : List Exports) (k m : Linker) (l : Linking) (i : In
 instance_given bases k m l i exports same gives h = subst (λ (v : Linker). IsThere v l i exports) (sym same) (by gives)
   where
     by : GivesInstance k.types (world_of bases k) m.instances i exports → IsThere (record k { instances = m.instances }) l i exports
-    by (inl has) = record { bases = bases; state = record { instances = has.are; scopes = h.scopes; cores = h.cores; canons = h.canons; canon_types = h.canon_types; resources = h.resources; plan = h.plan; ends = h.ends }; instance = has.is }
+    by (inl has) = record { bases = bases; state = record { instances = has.are; scopes = h.scopes; cores = h.cores; canons = h.canons; canon_types = h.canon_types; resources = h.resources; plan = h.plan; ends = h.ends; room = h.room }; instance = has.is }
     by (inr has) = record {
       bases = bases ++ exports ∷ [];
       state = instance_more bases k (record k { instances = m.instances }) l exports refl has.are h;

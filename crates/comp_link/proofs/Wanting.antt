@@ -20,7 +20,7 @@ use Rattle.link_spec.specs.Items.{lacking, said, type_made}
 use Rattle.link_spec.specs.Tests.{root_may_import, is_of_types}
 use Rattle.link_spec.specs.Computed.{Outcome, Makes, root_given, after, there_or, only_if, none_missing, as_asked, type_outcome, import_outcome, export_outcome}
 use Rattle.link_types.specs.Table.{Table}
-use Rattle.link_types.specs.declared.refs.InstanceTypeRef.{InstanceTypeRef}
+use Rattle.link_values.specs.declared.refs.InstanceTypeRef.{InstanceTypeRef}
 use Rattle.link_instances.specs.declared.references.DefinitionRef.{DefinitionRef}
 use Rattle.link_instances.specs.References.{World, Stands}
 use Rattle.comp_link.specs.Told.{IsReason, IsTold}
@@ -148,8 +148,8 @@ module _ (l : Linking) (n : ℕ) (s : Spaces) (name : List ℕ) (meaning : Meani
 -- Types.
 
 module _ (l : Linking) (n : ℕ) (s : Spaces) (meaning : Meaning Closed) (closed : Closed) (there : meaning.is_there ≡ true) (none : meaning.missing ≡ None) (is : meaning.means ≡ Some closed) where
-  pub type_told : meaning.deep ≡ false → type_outcome l n s meaning ≡ Ok (Makes (type_made l n s closed))
-  type_told shallow = rw (there, none, is, shallow) refl
+  pub type_told : meaning.deep ≡ false → meaning.has_room ≡ true → type_outcome l n s meaning ≡ Ok (Makes (type_made l n s true closed))
+  type_told shallow room = rw (there, none, is, shallow, room) refl
 
   pub type_deep : meaning.deep ≡ true → type_outcome l n s meaning ≡ Err why.Limit
   type_deep deep = rw (there, none, is, deep) refl

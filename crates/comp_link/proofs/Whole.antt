@@ -9,9 +9,9 @@ use Rattle.comp_graph.specs.Passed.{AreCanonTypes}
 use Rattle.comp_tree.specs.declared.items.Component.{Component}
 use Rattle.link_spec.specs.declared.fault.LinkFault.{LinkFault}
 use Rattle.link_spec.specs.Spaces.{Linking}
-use Rattle.link_spec.specs.Linked.{root_begun, graph_of, IsLinked, IsLinkRefused}
+use Rattle.link_spec.specs.Linked.{root_begun, graph_of, IsLinked, HasRoom, IsLinkRefused}
 use Rattle.link_spec.specs.Computed.{run_within, answer_of, linked}
-use Rattle.link_spec.proofs.Running.{graph_computed, fault_computed}
+use Rattle.link_spec.proofs.Running.{links_within, graph_computed, fault_computed}
 use Rattle.link_spec.proofs.Few.{graphs_are_few}
 use Rattle.comp_link.specs.declared.linker.Linker.{Linker}
 use Rattle.comp_link.specs.State.{type_table, Stands}
@@ -43,6 +43,13 @@ module _ (c : Component) (k : Linker) (told : IsTold (λ _ last. Stands k last) 
 
   pub linked_told : (g : Graph) → ((l : Linking) → Stands k l → g ≡ graph_of l) → IsLinked c g
   linked_told g is = subst (λ (g : Graph). IsLinked c g) (sym (is found.0 found.1)) found.2
+
+  pub room_told : HasRoom c
+  room_told = by (gone c) refl told
+    where
+      by : (r : Result Linking LinkFault) → gone c ≡ r → IsTold (λ _ last. Stands k last) done r → HasRoom c
+      by (Ok last) e h = (last, links_within c last e, h.1.room)
+      by (Err fault) e h = absurd h
 
   pub few_scopes : length k.scopes.items ≤ instance_limit
   few_scopes =

@@ -11,8 +11,8 @@ use Rattle.link_spec.specs.Spaces.{Spaces, Linking, with_spaces}
 use Rattle.link_spec.specs.Items.{type_made, lower_made, with_import, with_export}
 use Rattle.link_spec.specs.Tests.{are_types}
 use Rattle.link_spec.specs.Computed.{Outcome, Makes, as_asked}
-use Rattle.link_types.specs.declared.refs.InstanceTypeRef.{InstanceTypeRef}
-use Rattle.link_types.specs.declared.refs.TypeRef.{TypeRef}
+use Rattle.link_values.specs.declared.refs.InstanceTypeRef.{InstanceTypeRef}
+use Rattle.link_values.specs.declared.refs.TypeRef.{TypeRef}
 use Rattle.link_types.specs.Table.{Table, IsType, IsInstanceType}
 use Rattle.link_instances.specs.declared.references.LiftedRef.{LiftedRef}
 use Rattle.link_instances.specs.declared.references.DefinitionRef.{DefinitionRef}
@@ -46,9 +46,9 @@ pub record IsLowering (t : Table) (l : Linking) (n : ℕ) (s : Spaces) (ref : Li
   pub used : ref.1 ≡ options_of given
   pub makes : outcome ≡ Makes (lower_made l n s lifted given)
 
--- The reference stands for the type of which an item makes this outcome.
+-- The reference stands for the type of which an item makes this outcome, with numbers for all that it brings.
 abbrev pub IsTyped : Table → Linking → ℕ → Spaces → TypeRef → Outcome → Type 0
-IsTyped t l n s ref outcome = (closed : Closed) × IsType t ref closed × (outcome ≡ Makes (type_made l n s closed))
+IsTyped t l n s ref outcome = (closed : Closed) × IsType t ref closed × (outcome ≡ Makes (type_made l n s true closed))
 
 -- what an import and an export make of a definition
 abbrev pub imported : Linking → ℕ → Spaces → List ℕ → Definition → Outcome

@@ -1,7 +1,7 @@
 -- Linking as it stands (Component Model, Explainer.md, "Index Spaces"): the component instances that have begun, with their index
 -- spaces as references into tables, the core instances, the core functions of the Canonical ABI, the resources, the plan, and the types
 -- of streams and futures. What stands behind the references is told by the lists of exports that the instances so far have.
-use Rattle.std.specs.Prelude.{◌≡◌, ℕ, Bool, false, List, map, Option, Some, None}
+use Rattle.std.specs.Prelude.{◌≡◌, ℕ, Bool, true, false, List, map, Option, Some, None}
 use Rattle.std.specs.List.{slice_get, AllZip}
 use Rattle.wasm_module.specs.declared.module.ModuleTree.{ModuleTree}
 use Rattle.comp_graph.specs.Passed.{TypeTable, AreCanonTypes}
@@ -81,6 +81,7 @@ pub record IsState (bases : List Exports) (k : Linker) (l : Linking) : Type 0 wh
   pub resources : l.resources ≡ k.resources.items
   pub plan : l.plan ≡ k.plan.items
   pub ends : AreEndTypes k.types.values k.end_types l.end_types
+  pub room : l.has_room ≡ true
 
 -- It does so for some exports.
 abbrev pub Stands : Linker → Linking → Type 0

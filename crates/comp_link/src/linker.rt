@@ -1,6 +1,6 @@
 //! Linking as it stands: what the component instances that have begun have in their index spaces, and what was made.
 
-ghost use Rattle.std.specs.Prelude.{◌≡◌, ◌≢◌, ◌<◌, ◌+◌, ◌∷◌, ◌++◌, [], List, ℕ, false, Some, Ok, Err, map, length, IfSome, IfOk, OnOk, MatchResult, IsTrue};
+ghost use Rattle.std.specs.Prelude.{◌≡◌, ◌≢◌, ◌<◌, ◌+◌, ◌∷◌, ◌++◌, [], List, ℕ, true, false, Some, Ok, Err, map, length, IfSome, IfOk, OnOk, MatchResult, IsTrue};
 ghost use Rattle.std.specs.List.{slice_get};
 ghost use Rattle.std.specs.Option.{option_and_then, option_copied};
 ghost use Rattle.ca_base.specs.Faults.{IfFault};
@@ -250,7 +250,7 @@ impl<'a> Linker<'a> {
     /// Adds a type, which is noted where it is one of streams or futures.
     pub fn add_type(&mut self, n: usize, of: TypeRef) -> Result<(), AllocError>
         requires { n < length self.old.scopes.items }
-        ensures ok { OnOk result ((bases : List Exports) (l : Linking) (s : Spaces) (closed : Closed) → IsAt bases self.old n l s → IsType self.old.types of closed → IsState bases self.new (type_made l n s closed)) }
+        ensures ok { OnOk result ((bases : List Exports) (l : Linking) (s : Spaces) (closed : Closed) → IsAt bases self.old n l s → IsType self.old.types of closed → IsState bases self.new (type_made l n s true closed)) }
         ensures scopes { OnOk result (length self.new.scopes.items ≡ length self.old.scopes.items) }
         ensures live { OnOk result (ended self.new ≡ ended self.old) }
     {

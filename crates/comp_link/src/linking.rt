@@ -8,7 +8,7 @@ ghost use Rattle.comp_graph.specs.Graph.{instance_limit, core_instance_limit};
 ghost use Rattle.comp_tree.specs.declared.items.Item.TheOpen.{Item-F};
 ghost use Rattle.link_spec.specs.Definitions.{Exports, AComponent, AModule};
 ghost use Rattle.link_spec.specs.Spaces.{Spaces, Linking};
-ghost use Rattle.link_spec.specs.Linked.{begun, with_instance, IsLinked, IsLinkRefused};
+ghost use Rattle.link_spec.specs.Linked.{begun, with_instance, IsLinked, HasRoom, IsLinkRefused};
 ghost use Rattle.link_spec.specs.Shallow.{HasShallowTypes};
 ghost use Rattle.link_spec.specs.Computed.{Outcome, after, one_more, outcome_case, item_outcome, run_within, step};
 ghost use Rattle.link_instances.specs.References.{IsInstance};
@@ -241,6 +241,8 @@ fn link_items<'a>(
 pub fn link<'a>(alloc: Global, component: &'a Component) -> Result<Graph<'a>, LinkError>
     // What is answered is the component's graph.
     ensures ok { IfOk result (λ g. IsLinked component.now g) }
+    // There are numbers for all resources that types of instances bring.
+    ensures room { IfOk result (λ _. HasRoom component.now) }
     // What is refused is the first item that has a reason against it, those of components that are instantiated among them.
     ensures refused { IfErr result (λ e. IfFault e (λ fault. IsLinkRefused component.now fault)) }
     // There are at most 256 component instances, and at most 256 core instances.

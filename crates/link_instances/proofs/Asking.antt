@@ -2,7 +2,7 @@
 use Rattle.std.proofs.Common.{◌≡◌, ℕ, List, refl, Option, Some, None}
 use Rattle.std.specs.List.{slice_get}
 use Rattle.comp_graph.specs.Closed.{Extern, Externs}
-use Rattle.link_types.specs.declared.refs.ExternRef.{ExternRef}
+use Rattle.link_values.specs.declared.refs.ExternRef.{ExternRef}
 use Rattle.link_types.specs.Table.{Table, IsExtern, MayBeExtern, MayBeEntry, in_order}
 
 abbrev pub IsAsked : Table → Option ExternRef → Option Extern → Type 0

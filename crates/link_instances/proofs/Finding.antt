@@ -4,8 +4,8 @@ use Rattle.std.specs.List.{slice_get}
 use Rattle.std.proofs.lemmas.Option.{slice_get_past}
 use Rattle.comp_graph.specs.Closed.{Externs, extern_named}
 use Rattle.link_spec.specs.Definitions.{Exports, export_named}
-use Rattle.link_types.specs.declared.refs.InstanceTypeRef.{InstanceTypeRef}
-use Rattle.link_types.specs.declared.refs.ExternRef.{ExternRef}
+use Rattle.link_values.specs.declared.refs.InstanceTypeRef.{InstanceTypeRef}
+use Rattle.link_values.specs.declared.refs.ExternRef.{ExternRef}
 use Rattle.link_instances.specs.declared.references.InstanceRef.{InstanceRef}
 use Rattle.link_instances.specs.declared.references.DefinitionRef.{DefinitionRef}
 use Rattle.link_types.specs.Numbering.{AreApart}

@@ -8,8 +8,8 @@ use Rattle.link_spec.specs.Definitions.{Definition, Exports, export_named}
 use Rattle.link_spec.specs.Brought.{exports_given, found_for, all_found_for}
 use Rattle.link_spec.proofs.InOrder.{ordered, found_over, found_in_order}
 use Rattle.link_spec.proofs.Unnamed.{none_found_for}
-use Rattle.link_types.specs.declared.refs.InstanceTypeRef.{InstanceTypeRef}
-use Rattle.link_types.specs.declared.refs.ExternRef.TheVariants as extern_ref
+use Rattle.link_values.specs.declared.refs.InstanceTypeRef.{InstanceTypeRef}
+use Rattle.link_values.specs.declared.refs.ExternRef.TheVariants as extern_ref
 use Rattle.link_types.specs.Table.{Table, IsExtern, IsInstanceType, in_order}
 
 -- What is found for an export that is an instance.

@@ -9,7 +9,7 @@ use Rattle.comp_graph.specs.Closed.{Extern, OfInstance, Externs}
 use Rattle.link_spec.specs.Definitions.{Definition, AnInstance, Exports, lacks, first_lacking}
 use Rattle.link_spec.specs.Tests.{fits, fit_all}
 use Rattle.link_spec.proofs.Telling.{fits_told}
-use Rattle.link_types.specs.declared.refs.InstanceTypeRef.{InstanceTypeRef}
+use Rattle.link_values.specs.declared.refs.InstanceTypeRef.{InstanceTypeRef}
 use Rattle.link_instances.specs.declared.references.InstanceRef.{InstanceRef}
 use Rattle.link_instances.specs.declared.pairs.Pair.{Pair}
 use Rattle.link_instances.specs.declared.comparing.Comparison.{Comparison}

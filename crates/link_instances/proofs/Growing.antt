@@ -4,7 +4,7 @@ use Rattle.std.specs.List.{slice_get, AllZip}
 use Rattle.std.specs.Option.{option_and_then}
 use Rattle.std.proofs.lemmas.Option.{slice_get_within, slice_get_cases}
 use Rattle.link_spec.specs.Definitions.{Definition, AFunc, AType, AComponent, AnInstance, AModule, Exports, export_named, types_of}
-use Rattle.link_types.specs.declared.refs.InstanceTypeRef.{InstanceTypeRef}
+use Rattle.link_values.specs.declared.refs.InstanceTypeRef.{InstanceTypeRef}
 use Rattle.link_instances.specs.declared.references.InstanceRef.{InstanceRef}
 use Rattle.link_instances.specs.declared.references.DefinitionRef.{DefinitionRef}
 use Rattle.link_instances.specs.declared.references.DefinitionRef.TheVariants as definition_ref

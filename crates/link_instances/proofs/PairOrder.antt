@@ -7,10 +7,10 @@ use Rattle.std.specs.Ordering.{nat_cmp, bool_cmp, is_eq, ordering_then}
 use Rattle.std.specs.Option.{option_cmp}
 use Rattle.std.specs.BTreeSet.{BTreeSet, Updates}
 use Rattle.std.proofs.lemmas.Map.Lookups.{exact_unsigned}
-use Rattle.link_types.specs.declared.refs.InstanceTypeRef.{InstanceTypeRef}
+use Rattle.link_values.specs.declared.refs.InstanceTypeRef.{InstanceTypeRef}
 use Rattle.link_instances.specs.declared.references.InstanceRef.{InstanceRef}
 use Rattle.link_instances.specs.declared.pairs.Pair.{Pair}
-use Rattle.link_types.specs.contracts.refs.InstanceTypeRefOrd.TheImpl as type_order
+use Rattle.link_values.specs.contracts.refs.InstanceTypeRefOrd.TheImpl as type_order
 use Rattle.link_instances.specs.contracts.references.InstanceRefOrd.TheImpl as instance_order
 use Rattle.link_instances.specs.Pairs.{pair_cmp, has_pair, same_pair}
 

@@ -5,8 +5,8 @@ use Rattle.comp_graph.specs.Closed.{Extern, OfInstance, Externs}
 use Rattle.link_spec.specs.Definitions.{Definition, AnInstance, Exports, export_named, FitAll, first_lacking, seen_exports}
 use Rattle.link_spec.specs.Tests.{fit_all}
 use Rattle.link_instances.specs.Views.{extern_lacks, extern_fits}
-use Rattle.link_types.specs.declared.refs.InstanceTypeRef.{InstanceTypeRef}
-use Rattle.link_types.specs.declared.refs.ExternRef.{ExternRef}
+use Rattle.link_values.specs.declared.refs.InstanceTypeRef.{InstanceTypeRef}
+use Rattle.link_values.specs.declared.refs.ExternRef.{ExternRef}
 use Rattle.link_instances.specs.declared.references.InstanceRef.{InstanceRef}
 use Rattle.link_instances.specs.declared.references.DefinitionRef.{DefinitionRef}
 use Rattle.link_instances.specs.declared.pairs.Pair.{Pair}

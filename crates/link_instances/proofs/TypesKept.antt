@@ -7,7 +7,7 @@ use Rattle.std.specs.BTreeMap.{Updates}
 use Rattle.comp_graph.specs.Closed.{Externs}
 use Rattle.link_spec.specs.Definitions.{Exports, types_of}
 use Rattle.link_spec.specs.Tests.{are_types}
-use Rattle.link_types.specs.declared.refs.InstanceTypeRef.{InstanceTypeRef}
+use Rattle.link_values.specs.declared.refs.InstanceTypeRef.{InstanceTypeRef}
 use Rattle.link_instances.specs.declared.references.DefinitionRef.{DefinitionRef}
 use Rattle.link_instances.specs.declared.pairs.Pair.{Pair}
 use Rattle.link_instances.specs.declared.instances.Instances.{Instances}

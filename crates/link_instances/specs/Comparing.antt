@@ -3,8 +3,8 @@ use Rattle.std.specs.Prelude.{◌≡◌, ℕ, List, None, Some}
 use Rattle.comp_graph.specs.Closed.{Extern, OfInstance, Externs}
 use Rattle.link_spec.specs.Definitions.{Definition, AnInstance, Exports, lacks}
 use Rattle.link_spec.specs.Tests.{fits}
-use Rattle.link_types.specs.declared.refs.ExternRef.{ExternRef}
-use Rattle.link_types.specs.declared.refs.ExternRef.TheVariants.{Instance}
+use Rattle.link_values.specs.declared.refs.ExternRef.{ExternRef}
+use Rattle.link_values.specs.declared.refs.ExternRef.TheVariants.{Instance}
 use Rattle.link_instances.specs.declared.comparing.Comparison.{Comparison}
 use Rattle.link_instances.specs.declared.comparing.Comparison.TheVariants.{Agrees, Inside}
 use Rattle.link_types.specs.Table.{Table}

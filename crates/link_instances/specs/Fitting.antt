@@ -8,7 +8,7 @@ use Rattle.link_spec.specs.Definitions.{Definition, Exports, export_named, first
 use Rattle.link_spec.specs.Items.{first_told}
 use Rattle.link_spec.specs.Tests.{fit_all}
 use Rattle.link_instances.specs.Views.{extern_lacks, extern_fits}
-use Rattle.link_types.specs.declared.refs.InstanceTypeRef.{InstanceTypeRef}
+use Rattle.link_values.specs.declared.refs.InstanceTypeRef.{InstanceTypeRef}
 use Rattle.link_instances.specs.declared.references.InstanceRef.{InstanceRef}
 use Rattle.link_instances.specs.declared.pairs.Pair.{Pair}
 use Rattle.link_instances.specs.declared.fitting.Frame.{Frame as FrameRef}

@@ -2,7 +2,7 @@
 -- fit, and the bases that it keeps for instance types have the types that these ask for.
 use Rattle.std.specs.Prelude.{◌≡◌, ◌⊎◌, ℕ, true, Some}
 use Rattle.link_spec.specs.Definitions.{Exports}
-use Rattle.link_types.specs.declared.refs.InstanceTypeRef.{InstanceTypeRef}
+use Rattle.link_values.specs.declared.refs.InstanceTypeRef.{InstanceTypeRef}
 use Rattle.link_instances.specs.declared.references.InstanceRef.{InstanceRef}
 use Rattle.link_instances.specs.declared.pairs.Pair.{Pair}
 use Rattle.link_instances.specs.declared.instances.Instances.{Instances}

@@ -8,10 +8,10 @@ use Rattle.std.specs.BTreeMap.{BTreeMap, get}
 use Rattle.comp_graph.specs.Closed.{Extern, OfFunc, OfType, OfInstance, Externs, names_resource}
 use Rattle.link_spec.specs.Definitions.{types_of}
 use Rattle.link_spec.specs.Tests.{are_types}
-use Rattle.link_types.specs.declared.refs.InstanceTypeRef.{InstanceTypeRef}
-use Rattle.link_types.specs.declared.refs.ExternRef.{ExternRef}
-use Rattle.link_types.specs.declared.refs.ExternRef.TheVariants as extern_ref
-use Rattle.link_types.specs.contracts.refs.InstanceTypeRefOrd.TheImpl as order
+use Rattle.link_values.specs.declared.refs.InstanceTypeRef.{InstanceTypeRef}
+use Rattle.link_values.specs.declared.refs.ExternRef.{ExternRef}
+use Rattle.link_values.specs.declared.refs.ExternRef.TheVariants as extern_ref
+use Rattle.link_values.specs.contracts.refs.InstanceTypeRefOrd.TheImpl as order
 use Rattle.link_types.specs.Table.{Table, IsInstanceType}
 use Rattle.link_instances.specs.declared.references.InstanceRef.{InstanceRef}
 use Rattle.link_instances.specs.declared.references.DefinitionRef.{DefinitionRef}

@@ -6,10 +6,10 @@ use Rattle.std.specs.Option.{option_and_then, option_map_or}
 use Rattle.wasm_module.specs.declared.module.ModuleTree.{ModuleTree}
 use Rattle.comp_graph.specs.Closed.{Externs}
 use Rattle.link_spec.specs.Definitions.{Lifted, Closure, Definition, AFunc, AType, AComponent, AnInstance, AModule, Exports, EmptyInstance, WithExport, FitAll, seen_exports}
-use Rattle.link_types.specs.declared.refs.InstanceTypeRef.{InstanceTypeRef}
-use Rattle.link_types.specs.declared.refs.TypeRef.{TypeRef}
-use Rattle.link_types.specs.declared.refs.ExternRef.{ExternRef}
-use Rattle.link_types.specs.declared.refs.ExternRef.TheVariants as extern_ref
+use Rattle.link_values.specs.declared.refs.InstanceTypeRef.{InstanceTypeRef}
+use Rattle.link_values.specs.declared.refs.TypeRef.{TypeRef}
+use Rattle.link_values.specs.declared.refs.ExternRef.{ExternRef}
+use Rattle.link_values.specs.declared.refs.ExternRef.TheVariants as extern_ref
 use Rattle.link_instances.specs.declared.references.LiftedRef.{LiftedRef}
 use Rattle.link_instances.specs.declared.references.InstanceRef.{InstanceRef}
 use Rattle.link_instances.specs.declared.references.DefinitionRef.{DefinitionRef}

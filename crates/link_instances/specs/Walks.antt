@@ -4,7 +4,7 @@ use Rattle.std.specs.Prelude.{◌≡◌, ◌&&◌, ◌||◌, Bool, true, false, 
 use Rattle.std.specs.declared.alloc.AllocError.{AllocError}
 use Rattle.comp_graph.specs.Closed.{OfInstance, Externs}
 use Rattle.link_spec.specs.Definitions.{AnInstance, Exports}
-use Rattle.link_types.specs.declared.refs.InstanceTypeRef.{InstanceTypeRef}
+use Rattle.link_values.specs.declared.refs.InstanceTypeRef.{InstanceTypeRef}
 use Rattle.link_instances.specs.declared.references.InstanceRef.{InstanceRef}
 use Rattle.link_instances.specs.declared.pairs.Pair.{Pair}
 use Rattle.link_instances.specs.declared.instances.Instances.{Instances}

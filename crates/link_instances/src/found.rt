@@ -1,7 +1,8 @@
 //! What is given for the resources that a type of instances brings.
 //!
 //! Types of instances may stand in one another a million deep, and the same ones in many places. So no more of those that name a
-//! resource are gone through than may stand in one another here, and each export of them takes one of the steps that the table allows.
+//! resource are gone through than may stand in one another here, and looking at their exports takes steps, of which the table allows so
+//! many.
 
 ghost use Rattle.std.specs.Prelude.{◌≡◌, ◌+◌, ◌++◌, ◌∷◌, [], ◌==◌, cond, List, ℕ, length, Option, Some, IfOk, OnOk};
 ghost use Rattle.std.specs.List.{slice_get};
@@ -18,13 +19,10 @@ ghost use Rattle.link_instances.specs.Found.{AreExports, number_of};
 use crate::instances::Instances;
 use crate::references::{DefinitionRef, InstanceRef};
 use link_types::{
-    ExternRef, InstanceTypeRef, TypeRef, Types, asked_at, asked_count, first_brought,
-    names_resource,
+    ExternRef, InstanceTypeRef, NESTING_LIMIT, TypeRef, Types, asked_at, asked_count,
+    first_brought, names_resource, take_looks,
 };
 use std::alloc::{AllocError, Global};
-
-/// How many types of instances that name a resource may stand in one another where they are gone through.
-const NESTING_LIMIT: usize = 1_000;
 
 /// The number of the resource whose type is given, 0 where none is.
 fn number_of(given: Option<DefinitionRef>) -> usize
@@ -93,7 +91,7 @@ impl Instances {
         ensures ok { OnOk result ((w : World) (d : Option Definition) (extern : Extern) → AreInstances types.old w self.now → IsFound types.old w given d → IsExtern types.old item extern → found.new.items ≡ brought.found_for d found.old.items extern) }
         ensures same { types.new ≡ types.old }
     {
-        types.take_steps(1)?;
+        take_looks(types, item)?;
         match item {
             ExternRef::Func(_) => Ok(()),
             ExternRef::Type(closed) => find_type(given, closed, found),

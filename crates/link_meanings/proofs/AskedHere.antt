@@ -6,7 +6,7 @@ use Rattle.comp_graph.specs.Closed.{Extern, Externs, EmptyType, WithExtern}
 use Rattle.link_spec.specs.Definitions.{Exports}
 use Rattle.link_spec.specs.Brought.{all_found_for}
 use Rattle.link_spec.proofs.InOrder.{ordered, found_over, found_in_order}
-use Rattle.link_types.specs.declared.refs.ExternRef.{ExternRef}
+use Rattle.link_values.specs.declared.refs.ExternRef.{ExternRef}
 use Rattle.link_types.specs.Table.{Table, IsName, IsExtern, MayBeEntry, in_order}
 
 from_entry : (t : Table) (name : ℕ) (item : ExternRef) (p : Option (List ℕ × Extern)) → MayBeEntry t (Some (name, item)) p

@@ -6,9 +6,9 @@ use Rattle.link_spec.specs.Definitions.{Definition, Exports, export_named}
 use Rattle.link_spec.specs.Brought.{exports_given, found_type, found_for, all_found_for}
 use Rattle.link_spec.proofs.InOrder.{found_over}
 use Rattle.link_spec.proofs.Unnamed.{none_found_for}
-use Rattle.link_types.specs.declared.refs.InstanceTypeRef.{InstanceTypeRef}
-use Rattle.link_types.specs.declared.refs.TypeRef.{TypeRef}
-use Rattle.link_types.specs.declared.refs.ExternRef.TheVariants as extern_ref
+use Rattle.link_values.specs.declared.refs.InstanceTypeRef.{InstanceTypeRef}
+use Rattle.link_values.specs.declared.refs.TypeRef.{TypeRef}
+use Rattle.link_values.specs.declared.refs.ExternRef.TheVariants as extern_ref
 use Rattle.link_types.specs.Table.{Table, IsType, IsExtern, IsInstanceType, in_order}
 use Rattle.link_meanings.proofs.AskedHere.{drop_at, none_left, found_listed}
 

@@ -1,6 +1,6 @@
 -- Instance types with one declaration more.
-use Rattle.std.proofs.Common.{◌≡◌, ◌∙◌, ℕ, Bool, true, false, cond, List, [], ◌∷◌, ◌++◌, refl, ap, sym, subst, Option, Some, None}
-use Rattle.std.specs.Prelude.{◌||◌, not}
+use Rattle.std.proofs.Common.{◌≡◌, ◌∙◌, ◌≤◌, le-leb, ℕ, Bool, true, false, cond, List, [], ◌∷◌, ◌++◌, refl, ap, ap₂, sym, subst, Option, Some, None}
+use Rattle.std.specs.Prelude.{◌&&◌, ◌||◌, not}
 use Rattle.std.specs.Option.{option_map}
 use denote.Ref.{Bor}
 use Rattle.std.specs.Str.{bytes_eq}
@@ -9,16 +9,17 @@ use Rattle.ca_base.proofs.Seen.{among_more}
 use Rattle.comp_tree.specs.declared.instances.Sort.{Sort}
 use Rattle.comp_tree.specs.declared.instances.Sort.TheVariants as sorts
 use Rattle.comp_graph.specs.Closed.{Closed, Extern, OfFunc, OfType, OfInstance, Externs, extern_named}
+use Rattle.link_values.specs.Resources.{resource_room}
 use Rattle.link_spec.specs.Definitions.{Closure}
 use Rattle.link_spec.specs.Types as types_read
 use Rattle.link_spec.specs.Types.{Meaning, type_in, instance_in, with_declared, told, kept_if, with_type, with_component, declared_as, extended, under_name, of_sort, exported}
-use Rattle.link_types.specs.declared.refs.InstanceTypeRef.{InstanceTypeRef}
-use Rattle.link_types.specs.declared.refs.TypeRef.{TypeRef}
-use Rattle.link_types.specs.declared.refs.ExternRef.{ExternRef}
-use Rattle.link_types.specs.declared.refs.ExternRef.TheVariants as extern_ref
+use Rattle.link_values.specs.declared.refs.InstanceTypeRef.{InstanceTypeRef}
+use Rattle.link_values.specs.declared.refs.TypeRef.{TypeRef}
+use Rattle.link_values.specs.declared.refs.ExternRef.{ExternRef}
+use Rattle.link_values.specs.declared.refs.ExternRef.TheVariants as extern_ref
 use Rattle.link_types.specs.Table.{Table, IsType, IsExtern, IsInstanceType, MayBeExtern}
 use Rattle.link_types.specs.Begun.{IsBegun}
-use Rattle.link_types.specs.declared.meant.Meant.{Meant}
+use Rattle.link_values.specs.declared.meant.Meant.{Meant}
 use Rattle.link_meanings.specs.declared.declaring.Declared.{Declared}
 use Rattle.link_meanings.specs.Meant.{IsFoundAs, IsMeaning, text_of}
 use Rattle.link_meanings.specs.Levels.{IsClosure}
@@ -148,8 +149,8 @@ pub export_declared : (t : Table) (closures : List Closure) (mid new : Declared)
     → extended name extern defined.so_far.means ≡ extended name extern before
     → is_new ≡ not (has mid.names name) → ((q : List ℕ) → has new.names q ≡ (bytes_eq name q || has mid.names q))
     → IsFoundAs (IsBegun t) new.so_far.means (cond is_new (extended name extern defined.so_far.means) None) → new.so_far.is_there ≡ mid.so_far.is_there → new.so_far.missing ≡ mid.so_far.missing → new.so_far.deep ≡ mid.so_far.deep
-    → new.types ≡ mid.types → new.components ≡ mid.components → new.instances ≡ mid.instances → new.resources ≡ mid.resources → IsDeclared t closures new (under_name defined before name extern)
-export_declared t closures mid new defined before name extern is_new h same fresh all means there missing deep a b c r = record {
+    → new.types ≡ mid.types → new.components ≡ mid.components → new.instances ≡ mid.instances → new.resources ≡ mid.resources → mid.resources ≤ resource_room → IsDeclared t closures new (under_name defined before name extern)
+export_declared t closures mid new defined before name extern is_new h same fresh all means there missing deep a b c r few = record {
   types = rw a h.types;
   components = rw b h.components;
   instances = rw c h.instances;
@@ -159,6 +160,7 @@ export_declared t closures mid new defined before name extern is_new h same fres
     is_there = there ∙ h.so_far.is_there;
     missing = ap (λ (o : Option (Bor (List ℕ))). option_map text_of o) missing ∙ h.so_far.missing;
     deep = deep ∙ h.so_far.deep;
+    has_room = ap₂ (λ b c. b && c) h.so_far.has_room (le-leb defined.resources resource_room (subst (λ n. n ≤ resource_room) h.resources few));
     means = subst (λ (o : Option Externs). IsFoundAs (IsBegun t) new.so_far.means o)
         (ap (λ r. cond r (extended name extern defined.so_far.means) None) (fresh ∙ ap not (h.names name)) ∙ not_new (is_among name defined.names) (extended name extern defined.so_far.means) (extended name extern before) same) means;
   };
@@ -204,8 +206,8 @@ pub export_there : (t : Table) (sort : Sort) (name : List ℕ) (all : Externs) (
     → IsMeaning (IsExtern t) (record { is_there = true; missing = None; deep = false; means = means }) (exported sort name (Some all))
 export_there t sort name all item means h e =
     let p = found_of t item (extern_named name all) h in
-    rw (p.1, e) (record { is_there = refl; missing = refl; deep = refl; means = sort_found t sort item p.0 p.2 })
+    rw (p.1, e) (record { is_there = refl; missing = refl; deep = refl; has_room = refl; means = sort_found t sort item p.0 p.2 })
 
 pub export_missing : (t : Table) (sort : Sort) (name : Bor (List ℕ)) (all : Externs) → MayBeExtern t None (extern_named name.now all)
     → IsMeaning (IsExtern t) (record { is_there = true; missing = Some name; deep = false; means = None }) (exported sort name.now (Some all))
-export_missing t sort name all h = rw (lacks_of t (extern_named name.now all) h) (record { is_there = refl; missing = refl; deep = refl; means = refl })
+export_missing t sort name all h = rw (lacks_of t (extern_named name.now all) h) (record { is_there = refl; missing = refl; deep = refl; has_room = refl; means = refl })

@@ -6,10 +6,10 @@ use Rattle.comp_tree.specs.declared.externs.ExternDesc.{ExternDesc}
 use Rattle.comp_tree.specs.declared.externs.ExternDesc.TheVariants as desc
 use Rattle.comp_graph.specs.Closed.{Closed, Value, Func, Resource, Instance, OfFunc, OfType, OfInstance, func_of, externs_of}
 use Rattle.link_spec.specs.Types.{absent, desc_meaning}
-use Rattle.link_types.specs.declared.refs.TypeRef.{TypeRef}
-use Rattle.link_types.specs.declared.refs.TypeRef.TheVariants as type_ref
+use Rattle.link_values.specs.declared.refs.TypeRef.{TypeRef}
+use Rattle.link_values.specs.declared.refs.TypeRef.TheVariants as type_ref
 use Rattle.link_types.specs.Table.{Table, IsType, IsExtern}
-use Rattle.link_types.specs.declared.meant.Meant.{Meant}
+use Rattle.link_values.specs.declared.meant.Meant.{Meant}
 use Rattle.link_meanings.specs.Meant.{IsFoundAs, IsMeaning}
 use Rattle.link_meanings.specs.Levels.{AreTypes}
 use Rattle.link_spec.specs.Types.{desc_index}
@@ -19,15 +19,15 @@ use Rattle.link_meanings.proofs.Lists.{found_at}
 module _ (t : Table) where
   -- the type is not there, it has no meaning, and it has one
   desc_absent : (closed : List (Option Closed)) (asked : ExternDesc) (i : ℕ) → desc_index asked ≡ Some i → slice_get closed i ≡ None → IsMeaning (IsExtern t) (record { is_there = false; missing = None; deep = false; means = None }) (desc_meaning closed asked)
-  desc_absent closed (desc.Func index) i e h = let same : index ≡ i = cc in rw (same, h) (record { is_there = refl; missing = refl; deep = refl; means = refl })
-  desc_absent closed (desc.TypeEq index) i e h = let same : index ≡ i = cc in rw (same, h) (record { is_there = refl; missing = refl; deep = refl; means = refl })
-  desc_absent closed (desc.Instance index) i e h = let same : index ≡ i = cc in rw (same, h) (record { is_there = refl; missing = refl; deep = refl; means = refl })
+  desc_absent closed (desc.Func index) i e h = let same : index ≡ i = cc in rw (same, h) (record { is_there = refl; missing = refl; deep = refl; has_room = refl; means = refl })
+  desc_absent closed (desc.TypeEq index) i e h = let same : index ≡ i = cc in rw (same, h) (record { is_there = refl; missing = refl; deep = refl; has_room = refl; means = refl })
+  desc_absent closed (desc.Instance index) i e h = let same : index ≡ i = cc in rw (same, h) (record { is_there = refl; missing = refl; deep = refl; has_room = refl; means = refl })
   desc_absent closed desc.Resource i e h = absurd (let no : ⊥ = cc in no)
 
   desc_none : (closed : List (Option Closed)) (asked : ExternDesc) (i : ℕ) → desc_index asked ≡ Some i → slice_get closed i ≡ Some None → IsMeaning (IsExtern t) (record { is_there = true; missing = None; deep = false; means = None }) (desc_meaning closed asked)
-  desc_none closed (desc.Func index) i e h = let same : index ≡ i = cc in rw (same, h) (record { is_there = refl; missing = refl; deep = refl; means = refl })
-  desc_none closed (desc.TypeEq index) i e h = let same : index ≡ i = cc in rw (same, h) (record { is_there = refl; missing = refl; deep = refl; means = refl })
-  desc_none closed (desc.Instance index) i e h = let same : index ≡ i = cc in rw (same, h) (record { is_there = refl; missing = refl; deep = refl; means = refl })
+  desc_none closed (desc.Func index) i e h = let same : index ≡ i = cc in rw (same, h) (record { is_there = refl; missing = refl; deep = refl; has_room = refl; means = refl })
+  desc_none closed (desc.TypeEq index) i e h = let same : index ≡ i = cc in rw (same, h) (record { is_there = refl; missing = refl; deep = refl; has_room = refl; means = refl })
+  desc_none closed (desc.Instance index) i e h = let same : index ≡ i = cc in rw (same, h) (record { is_there = refl; missing = refl; deep = refl; has_room = refl; means = refl })
   desc_none closed desc.Resource i e h = absurd (let no : ⊥ = cc in no)
 
   of_func : (index : ℕ) (ref : TypeRef) (c : Closed) → IsType t ref c → IsFoundAs (IsExtern t) (described_ref (desc.Func index) ref) (option_map OfFunc (func_of c))
@@ -46,9 +46,9 @@ module _ (t : Table) where
 
   desc_some : (closed : List (Option Closed)) (asked : ExternDesc) (i : ℕ) (ref : TypeRef) (c : Closed) → desc_index asked ≡ Some i → slice_get closed i ≡ Some (Some c) → IsType t ref c
       → IsMeaning (IsExtern t) (record { is_there = true; missing = None; deep = false; means = described_ref asked ref }) (desc_meaning closed asked)
-  desc_some closed (desc.Func index) i ref c e h is = let same : index ≡ i = cc in rw (same, h) (record { is_there = refl; missing = refl; deep = refl; means = of_func i ref c is })
-  desc_some closed (desc.TypeEq index) i ref c e h is = let same : index ≡ i = cc in rw (same, h) (record { is_there = refl; missing = refl; deep = refl; means = (OfType c, refl, is) })
-  desc_some closed (desc.Instance index) i ref c e h is = let same : index ≡ i = cc in rw (same, h) (record { is_there = refl; missing = refl; deep = refl; means = of_instance i ref c is })
+  desc_some closed (desc.Func index) i ref c e h is = let same : index ≡ i = cc in rw (same, h) (record { is_there = refl; missing = refl; deep = refl; has_room = refl; means = of_func i ref c is })
+  desc_some closed (desc.TypeEq index) i ref c e h is = let same : index ≡ i = cc in rw (same, h) (record { is_there = refl; missing = refl; deep = refl; has_room = refl; means = (OfType c, refl, is) })
+  desc_some closed (desc.Instance index) i ref c e h is = let same : index ≡ i = cc in rw (same, h) (record { is_there = refl; missing = refl; deep = refl; has_room = refl; means = of_instance i ref c is })
   desc_some closed desc.Resource i ref c e h is = absurd (let no : ⊥ = cc in no)
 
   -- by what the references have at the index
@@ -76,7 +76,7 @@ module _ (t : Table) where
   described_nothing closed (desc.Func index) e = absurd (let no : ⊥ = cc in no)
   described_nothing closed (desc.TypeEq index) e = absurd (let no : ⊥ = cc in no)
   described_nothing closed (desc.Instance index) e = absurd (let no : ⊥ = cc in no)
-  described_nothing closed desc.Resource e = record { is_there = refl; missing = refl; deep = refl; means = refl }
+  described_nothing closed desc.Resource e = record { is_there = refl; missing = refl; deep = refl; has_room = refl; means = refl }
 
 pub absent_stands : {A B : Type 0} (R : B → A → Type 0) (m : Meant B) → m ≡ record { is_there = false; missing = None; deep = false; means = None } → IsMeaning R m absent
-absent_stands R m e = rw e (record { is_there = refl; missing = refl; deep = refl; means = refl })
+absent_stands R m e = rw e (record { is_there = refl; missing = refl; deep = refl; has_room = refl; means = refl })

@@ -12,7 +12,7 @@ use Rattle.link_spec.specs.Definitions.{Closure}
 use Rattle.link_spec.specs.Spaces as spaces
 use Rattle.link_spec.specs.Types as types_read
 use Rattle.link_spec.specs.Types.{absent, declared_as, with_outer, found, types_around, outer_type, outer_component, own_level}
-use Rattle.link_types.specs.declared.refs.TypeRef.{TypeRef}
+use Rattle.link_values.specs.declared.refs.TypeRef.{TypeRef}
 use Rattle.link_types.specs.Table.{Table, IsType}
 use Rattle.link_meanings.specs.declared.levels.Level.{Level}
 use Rattle.link_meanings.specs.declared.levels.Enclosing.{Enclosing}
@@ -25,14 +25,14 @@ use Rattle.link_meanings.proofs.Lists.{found_at, all_of_images}
 
 -- what is named of a level: it is not there, or it is found
 named_absent : {A B : Type 0} (R : B → A → Type 0) (o : Option (Option A)) → o ≡ None → IsMeaning R (record { is_there = false; missing = None; deep = false; means = None }) (found (λ a. Some a) o)
-named_absent R o h = rw h (record { is_there = refl; missing = refl; deep = refl; means = refl })
+named_absent R o h = rw h (record { is_there = refl; missing = refl; deep = refl; has_room = refl; means = refl })
 
 kept : {A : Type 0} (o : Option A) → option_and_then (λ a. Some a) o ≡ o
 kept None = refl
 kept (Some a) = refl
 
 named_found : {A B : Type 0} (R : B → A → Type 0) (b : Option B) (o : Option (Option A)) → IsFoundAs (IsFoundAs R) (Some b) o → IsMeaning R (record { is_there = true; missing = None; deep = false; means = b }) (found (λ a. Some a) o)
-named_found R b o h = rw (h.1, kept h.0) (record { is_there = refl; missing = refl; deep = refl; means = h.2 })
+named_found R b o h = rw (h.1, kept h.0) (record { is_there = refl; missing = refl; deep = refl; has_room = refl; means = h.2 })
 
 module _ (t : Table) (closures : List Closure) where
   pub type_absent : (up index : ℕ) (level : Enclosing) (l : Option spaces.Level) → IsFoundAs (IsEnclosing t closures) (Some level) l → slice_get (enclosed_types level) index ≡ None
@@ -42,21 +42,21 @@ module _ (t : Table) (closures : List Closure) where
       rw h.1 (moved_absent up (slice_get h.0.types index) p)
     where
       moved_absent : (up : ℕ) (o : Option (Option Closed)) → o ≡ None → IsMeaning (IsType t) (record { is_there = false; missing = None; deep = false; means = None }) (found (λ type. Some (moved (further_in up) 0 type)) o)
-      moved_absent up o k = rw k (record { is_there = refl; missing = refl; deep = refl; means = refl })
+      moved_absent up o k = rw k (record { is_there = refl; missing = refl; deep = refl; has_room = refl; means = refl })
 
   -- a type without a meaning, and one that has one
   pub type_unknown : (up index : ℕ) (level : Enclosing) (l : Option spaces.Level) → IsFoundAs (IsEnclosing t closures) (Some level) l → slice_get (enclosed_types level) index ≡ Some None
       → IsMeaning (IsType t) (record { is_there = true; missing = None; deep = false; means = None }) (outer_type up index l)
   type_unknown up index level l h e =
       let p : IsFoundAs (IsFoundAs (IsType t)) (Some None) (slice_get h.0.types index) = rw e at (found_at (IsFoundAs (IsType t)) (enclosed_types level) h.0.types index h.2.types) in
-      rw (h.1, p.1, p.2) (record { is_there = refl; missing = refl; deep = refl; means = refl })
+      rw (h.1, p.1, p.2) (record { is_there = refl; missing = refl; deep = refl; has_room = refl; means = refl })
 
   pub type_moved : (u : Table) (up index : ℕ) (level : Enclosing) (l : Option spaces.Level) (closed new : TypeRef) → IsFoundAs (IsEnclosing t closures) (Some level) l → slice_get (enclosed_types level) index ≡ Some (Some closed)
       → ((type : Closed) → IsType t closed type → IsType u new (moved (further_in up) 0 type))
       → IsMeaning (IsType u) (record { is_there = true; missing = None; deep = false; means = Some new }) (outer_type up index l)
   type_moved u up index level l closed new h e k =
       let p : IsFoundAs (IsFoundAs (IsType t)) (Some (Some closed)) (slice_get h.0.types index) = rw e at (found_at (IsFoundAs (IsType t)) (enclosed_types level) h.0.types index h.2.types) in
-      rw (h.1, p.1, p.2.1) (record { is_there = refl; missing = refl; deep = refl; means = (moved (further_in up) 0 p.2.0, refl, k p.2.0 p.2.2) })
+      rw (h.1, p.1, p.2.1) (record { is_there = refl; missing = refl; deep = refl; has_room = refl; means = (moved (further_in up) 0 p.2.0, refl, k p.2.0 p.2.2) })
 
   pub component_absent : (index : ℕ) (level : Enclosing) (l : Option spaces.Level) → IsFoundAs (IsEnclosing t closures) (Some level) l → slice_get (enclosed_components level) index ≡ None
       → IsMeaning (IsClosure closures) (record { is_there = false; missing = None; deep = false; means = None }) (outer_component index l)

@@ -5,12 +5,12 @@ use Rattle.comp_graph.specs.Closed.{Closed, Value, Func, Resource, Instance, Ext
 use Rattle.link_values.specs.Resources.{first_brought, brought_behind}
 use Rattle.link_spec.specs.Brought.{moved_extern, moved_externs}
 use Rattle.link_spec.specs.Types.{meant, as_exported}
-use Rattle.link_types.specs.declared.meant.Meant.{Meant}
-use Rattle.link_types.specs.declared.refs.InstanceTypeRef.{InstanceTypeRef}
-use Rattle.link_types.specs.declared.refs.TypeRef.{TypeRef}
-use Rattle.link_types.specs.declared.refs.TypeRef.TheVariants as type_ref
-use Rattle.link_types.specs.declared.refs.ExternRef.{ExternRef}
-use Rattle.link_types.specs.declared.refs.ExternRef.TheVariants as extern_ref
+use Rattle.link_values.specs.declared.meant.Meant.{Meant}
+use Rattle.link_values.specs.declared.refs.InstanceTypeRef.{InstanceTypeRef}
+use Rattle.link_values.specs.declared.refs.TypeRef.{TypeRef}
+use Rattle.link_values.specs.declared.refs.TypeRef.TheVariants as type_ref
+use Rattle.link_values.specs.declared.refs.ExternRef.{ExternRef}
+use Rattle.link_values.specs.declared.refs.ExternRef.TheVariants as extern_ref
 use Rattle.link_types.specs.Table.{Table, IsType, IsExtern}
 use Rattle.link_meanings.specs.declared.levels.Enclosing.{Enclosing}
 use Rattle.link_meanings.specs.Meant.{IsFoundAs, IsMeaning}

@@ -6,7 +6,7 @@ use Rattle.link_spec.specs.Definitions.{Closure}
 use Rattle.link_spec.specs.Spaces as spaces
 use Rattle.link_spec.specs.Types as types_read
 use Rattle.link_spec.specs.Types.{Meaning}
-use Rattle.link_types.specs.declared.refs.TypeRef.{TypeRef}
+use Rattle.link_values.specs.declared.refs.TypeRef.{TypeRef}
 use Rattle.link_types.specs.declared.maker.InstanceTypeMaker.{InstanceTypeMaker}
 use Rattle.link_types.specs.Table.{Table, IsType, IsInstanceType, Grows}
 use Rattle.link_types.specs.Begun.{IsBegun}
@@ -38,6 +38,7 @@ module _ (t u : Table) (g : Grows t u) where
     is_there = h.is_there;
     missing = h.missing;
     deep = h.deep;
+    has_room = h.has_room;
     means = found_stays (IsBegun t) (IsBegun u) begun_stays s.means m.means h.means;
   }
 

@@ -16,9 +16,9 @@ use Rattle.comp_graph.specs.Closed.{Closed, Value, Func, Resource, Instance, val
 use Rattle.link_spec.specs.ValueTypes.{close_resource}
 use Rattle.link_spec.specs.Types.{meant, close_val, close_param, close_params, close_held, close_passed, close_func}
 use Rattle.link_types.specs.declared.labels.LabelledType.{LabelledType}
-use Rattle.link_types.specs.declared.refs.FuncTypeRef.{FuncTypeRef}
-use Rattle.link_types.specs.declared.refs.TypeRef.{TypeRef}
-use Rattle.link_types.specs.declared.refs.TypeRef.TheVariants as type_ref
+use Rattle.link_values.specs.declared.refs.FuncTypeRef.{FuncTypeRef}
+use Rattle.link_values.specs.declared.refs.TypeRef.{TypeRef}
+use Rattle.link_values.specs.declared.refs.TypeRef.TheVariants as type_ref
 use Rattle.link_types.specs.Layered.{MayBeValue}
 use Rattle.link_types.specs.Labels.{IsParam, IsFuncOf}
 use Rattle.link_types.specs.Table.{Table, IsValue, IsFunc, IsType, Grows}
@@ -142,4 +142,4 @@ func_closed t u v closed type distinct labels returned ref g e h p r made =
 
 -- what a function type with this means, where its indices are there
 pub func_stands : (t : Table) (o : Option TypeRef) (means : Option Closed) → IsFoundAs (IsType t) o means → IsMeaning (IsType t) (record { is_there = true; missing = None; deep = false; means = o }) (meant means)
-func_stands t o means h = record { is_there = refl; missing = refl; deep = refl; means = h }
+func_stands t o means h = record { is_there = refl; missing = refl; deep = refl; has_room = refl; means = h }

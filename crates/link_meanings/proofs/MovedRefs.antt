@@ -11,11 +11,11 @@ use Rattle.link_spec.proofs.Unnamed.{FixesNone, func_kept, type_kept, externs_ke
 use Rattle.link_types.specs.Changes.{change_of}
 use Rattle.link_values.specs.declared.changes.Change as told
 use Rattle.link_values.specs.declared.changes.Change.TheVariants.{FurtherIn, BroughtBehind, FilledIn}
-use Rattle.link_types.specs.declared.refs.FuncTypeRef.{FuncTypeRef}
-use Rattle.link_types.specs.declared.refs.InstanceTypeRef.{InstanceTypeRef}
-use Rattle.link_types.specs.declared.refs.TypeRef.{TypeRef}
-use Rattle.link_types.specs.declared.refs.TypeRef.TheVariants as type_ref
-use Rattle.link_types.specs.declared.refs.ExternRef.TheVariants as extern_ref
+use Rattle.link_values.specs.declared.refs.FuncTypeRef.{FuncTypeRef}
+use Rattle.link_values.specs.declared.refs.InstanceTypeRef.{InstanceTypeRef}
+use Rattle.link_values.specs.declared.refs.TypeRef.{TypeRef}
+use Rattle.link_values.specs.declared.refs.TypeRef.TheVariants as type_ref
+use Rattle.link_values.specs.declared.refs.ExternRef.TheVariants as extern_ref
 use Rattle.link_types.specs.Table.{Table, IsValue, IsFunc, IsType, IsExtern, IsInstanceType}
 
 -- No change is one of 0.

@@ -1,17 +1,17 @@
 -- What declarations tell, one behind the others, and the exports that are made.
-use Rattle.std.proofs.Common.{◌≡◌, ◌∙◌, ℕ, List, refl, ap, Option, Some, None}
+use Rattle.std.proofs.Common.{◌≡◌, ◌∙◌, ℕ, List, refl, ap, ap₂, Option, Some, None}
 use Rattle.std.specs.Prelude.{◌&&◌, ◌||◌}
 use Rattle.std.specs.Option.{option_map}
 use denote.Ref.{Bor}
 use Rattle.comp_graph.specs.Closed.{Instance, Extern, Externs, WithExtern, first_of}
 use Rattle.link_spec.specs.Types.{Meaning, kept_if, and_told, extended}
-use Rattle.link_types.specs.declared.refs.InstanceTypeRef.{InstanceTypeRef}
-use Rattle.link_types.specs.declared.refs.TypeRef.TheVariants as type_ref
-use Rattle.link_types.specs.declared.refs.ExternRef.{ExternRef}
+use Rattle.link_values.specs.declared.refs.InstanceTypeRef.{InstanceTypeRef}
+use Rattle.link_values.specs.declared.refs.TypeRef.TheVariants as type_ref
+use Rattle.link_values.specs.declared.refs.ExternRef.{ExternRef}
 use Rattle.link_types.specs.declared.maker.InstanceTypeMaker.{InstanceTypeMaker}
 use Rattle.link_types.specs.Table.{Table, IsName, IsExtern, IsInstanceType, IsType}
 use Rattle.link_types.specs.Begun.{IsBegun}
-use Rattle.link_types.specs.declared.meant.Meant.{Meant}
+use Rattle.link_values.specs.declared.meant.Meant.{Meant}
 use Rattle.link_meanings.specs.declared.so_far.SoFar.{SoFar}
 use Rattle.link_meanings.specs.Meant.{IsFoundAs, IsMeaning, text_of}
 use Rattle.link_meanings.specs.Declaring.{IsSoFar, told_more}
@@ -31,6 +31,7 @@ told_stands {A} {B} t R s new m r now h k e = rw e (record {
   is_there = ap (λ b. b && r.is_there) h.is_there ∙ ap (λ b. m.is_there && b) k.is_there;
   missing = first_named s.missing r.missing ∙ ap (λ (o : Option (List ℕ)). first_of o (option_map text_of r.missing)) h.missing ∙ ap (λ (o : Option (List ℕ)). first_of m.missing o) k.missing;
   deep = ap (λ b. b || r.deep) h.deep ∙ ap (λ b. m.deep || b) k.deep;
+  has_room = ap₂ (λ b c. b && c) h.has_room k.has_room;
   means = means_kept {A = A} {B = B} t R s.means m.means r.means now.means h.means k.means;
 })
 

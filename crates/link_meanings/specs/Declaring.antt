@@ -1,6 +1,6 @@
 -- An instance type whose declarations are read (Component Model, Explainer.md, "Type Definitions"), beside its definition: the index
 -- spaces so far, the names of its exports so far, and what its declarations tell.
-use Rattle.std.specs.Prelude.{◌≡◌, ℕ, ◌&&◌, ◌||◌, List}
+use Rattle.std.specs.Prelude.{◌≡◌, ℕ, true, ◌&&◌, ◌||◌, List}
 use Rattle.std.specs.Option.{option_map}
 use Rattle.std.specs.List.{AllZip}
 use Rattle.ca_base.specs.Names.{has, is_among}
@@ -13,7 +13,7 @@ use Rattle.link_spec.specs.Types as types_read
 use Rattle.link_spec.specs.Types.{Meaning, kept_if, InLevels, type_step, decl_step}
 use Rattle.link_types.specs.Table.{Table, IsInstanceType}
 use Rattle.link_types.specs.Begun.{IsBegun}
-use Rattle.link_types.specs.declared.meant.Meant.{Meant}
+use Rattle.link_values.specs.declared.meant.Meant.{Meant}
 use Rattle.link_meanings.specs.declared.so_far.SoFar.{SoFar}
 use Rattle.link_meanings.specs.declared.declaring.Declared.{Declared}
 use Rattle.link_meanings.specs.Meant.{IsFoundAs, text_of}
@@ -24,6 +24,7 @@ pub record IsSoFar (t : Table) (s : SoFar) (meaning : Meaning Externs) : Type 0 
   pub is_there : s.is_there ≡ meaning.is_there
   pub missing : option_map text_of s.missing ≡ meaning.missing
   pub deep : s.deep ≡ meaning.deep
+  pub has_room : meaning.has_room ≡ true
   pub means : IsFoundAs (IsBegun t) s.means meaning.means
 
 -- what one more declaration tells behind it, which has this meaning
@@ -37,7 +38,7 @@ told_more s meant = record {
 
 -- what an instance type means whose declarations have told this
 abbrev pub as_instance : Meaning Externs → Meaning Closed
-as_instance m = record { is_there = m.is_there; missing = m.missing; deep = m.deep; means = option_map Instance m.means }
+as_instance m = record { is_there = m.is_there; missing = m.missing; deep = m.deep; has_room = m.has_room; means = option_map Instance m.means }
 
 -- The instance type so far.
 pub record IsDeclared (t : Table) (closures : List Closure) (d : Declared) (defined : types_read.Declared) : Type 0 where

@@ -5,7 +5,7 @@ use Rattle.std.specs.List.{slice_get, AllZip}
 use Rattle.comp_graph.specs.Closed.{Closed}
 use Rattle.link_spec.specs.Definitions.{Closure}
 use Rattle.link_spec.specs.Spaces as spaces
-use Rattle.link_types.specs.declared.refs.TypeRef.{TypeRef}
+use Rattle.link_values.specs.declared.refs.TypeRef.{TypeRef}
 use Rattle.link_types.specs.Table.{Table, IsType}
 use Rattle.link_meanings.specs.declared.levels.Level.{Level}
 use Rattle.link_meanings.specs.declared.levels.Enclosing.{Enclosing}

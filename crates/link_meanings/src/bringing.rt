@@ -7,10 +7,9 @@ ghost use Rattle.link_spec.specs.Definitions.{Definition, Exports};
 ghost use Rattle.link_spec.specs.Brought.{found_type, found_for, all_found_for, brought};
 ghost use Rattle.link_types.specs.Table.{Table, IsType, IsExtern, IsInstanceType};
 
-use crate::moving::NESTING_LIMIT;
 use link_types::{
-    ExternRef, InstanceTypeRef, TypeRef, Types, asked_at, asked_count, first_brought,
-    names_resource,
+    ExternRef, InstanceTypeRef, NESTING_LIMIT, TypeRef, Types, asked_at, asked_count,
+    first_brought, names_resource, take_looks,
 };
 use std::alloc::AllocError;
 
@@ -52,7 +51,7 @@ fn with_item(
     ensures ok { IfOk result (λ all. (given : Option Definition) (found : List ℕ) (extern : Extern) → IsExtern types.old item extern → length found ≡ count → length (found_for given found extern) ≡ all) }
     ensures same { types.new ≡ types.old }
 {
-    types.take_steps(1)?;
+    take_looks(types, item)?;
     match item {
         ExternRef::Func(_) => Ok(count),
         ExternRef::Type(closed) => Ok(with_type(closed, count)?),

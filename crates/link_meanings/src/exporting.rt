@@ -15,11 +15,8 @@ use crate::described::described;
 use crate::levels::Enclosing;
 use crate::moving::moved_extern;
 use comp_tree::ExternDesc;
-use link_types::{Change, ExternRef, Meant, TypeRef, Types, first_brought};
+use link_types::{Change, ExternRef, Meant, RESOURCE_ROOM, TypeRef, Types, first_brought};
 use std::alloc::{AllocError, Global};
-
-/// How many resources a type of instances may bring. Behind so many stand the numbers of what the type of instances around it brings.
-const RESOURCE_ROOM: usize = 1_048_576;
 
 /// A sum of counts. It fails where it has no room, and the other functions here for want of memory alone.
 fn sum(count: usize, more: usize) -> Result<usize, AllocError>
@@ -31,7 +28,8 @@ fn sum(count: usize, more: usize) -> Result<usize, AllocError>
     }
 }
 
-/// How many resources are brought with so many more. It fails where a type of instances may not bring as many.
+/// How many resources are brought with so many more. It fails where a type of instances may not bring as many: behind so many stand the
+/// numbers of what the type of instances around it brings.
 pub(crate) fn brought_with(count: usize, more: usize) -> Result<usize, AllocError>
     ensures { IfOk result (λ all. (all ≡ count + more) × (all ≤ resource_room)) }
 {

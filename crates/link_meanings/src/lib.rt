@@ -33,5 +33,5 @@ mod values;
 pub use described::wanted;
 pub use levels::Level;
 pub use meanings::meaning_of;
-pub use moving::{NESTING_LIMIT, moved_extern};
+pub use moving::moved_extern;
 pub use values::held_value;

@@ -1,9 +1,9 @@
 //! Closed types in which the numbers of resources are changed.
 //!
 //! Types of instances may stand in one another a million deep, and the same ones in many places. So no more of those that name a
-//! resource are gone through than may stand in one another here, and each export of them takes one of the steps that the table allows.
+//! resource are gone through than may stand in one another here, and each export in them takes one of the steps that the table allows.
 
-ghost use Rattle.std.specs.Prelude.{◌≡◌, suc, IfOk};
+ghost use Rattle.std.specs.Prelude.{◌≡◌, ◌≤◌, suc, IfOk};
 ghost use Rattle.ca_types.specs.declared.types.FuncType.{FuncType};
 ghost use Rattle.comp_graph.specs.Closed.{Closed, Extern, Externs};
 ghost use Rattle.link_values.specs.Resources.{renumbered_func};
@@ -12,13 +12,10 @@ ghost use Rattle.link_types.specs.Changes.{change_of};
 ghost use Rattle.link_types.specs.Table.{IsFunc, IsType, IsExtern, IsInstanceType, Grows};
 
 use link_types::{
-    Change, ExternRef, FuncTypeRef, InstanceTypeMaker, InstanceTypeRef, TypeRef, Types, asked_at,
-    asked_count, changed_func, changed_value, names_resource,
+    Change, ExternRef, FuncTypeRef, InstanceTypeMaker, InstanceTypeRef, NESTING_LIMIT, TypeRef,
+    Types, asked_at, asked_count, changed_func, changed_value, names_resource,
 };
 use std::alloc::{AllocError, Global};
-
-/// How many types of instances that name a resource may stand in one another where they are gone through.
-pub const NESTING_LIMIT: usize = 1_000;
 
 /// In one type of instances more. It fails where there is no such number.
 fn further_in(depth: usize) -> Result<usize, AllocError>
@@ -80,6 +77,14 @@ fn moved_type_in(
     moved_names(alloc, types, closed, change, depth, left)
 }
 
+/// How many steps an export takes that stands in so many fewer types of instances than may be gone into: one, but for the outermost, of
+/// which nothing is gone through where it names no resource.
+fn steps_of(left: usize) -> usize
+    ensures { result ≤ 1 }
+{
+    if left < NESTING_LIMIT { 1 } else { 0 }
+}
+
 /// What an export is.
 #[cycle(moving)]
 fn moved_item(
@@ -93,7 +98,7 @@ fn moved_item(
     ensures ok { IfOk result (λ new. (extern : Extern) → IsExtern types.old item extern → IsExtern types.new new (moved_extern (change_of change.entry) depth extern)) }
     ensures grows { Grows types.old types.new }
 {
-    types.take_steps(1)?;
+    types.take_steps(steps_of(left))?;
     match item {
         ExternRef::Func(func_type) => {
             let moved = moved_func(alloc, types, func_type, change, depth)?;
@@ -157,8 +162,8 @@ fn moved_instance(
     Ok(maker.finish(types)?)
 }
 
-/// A closed type in which the numbers of resources are changed. It fails for want of memory alone, as does the other function here,
-/// which is also told where too much would have to be gone through.
+/// A closed type in which the numbers of resources are changed. It fails for want of memory alone, as does the other function here, and
+/// that is also what it tells where too much would have to be gone through.
 pub fn moved_type(
     alloc: Global,
     types: &mut Types<'_>,

@@ -53,7 +53,7 @@ abbrev spaces : ℕ → Spaces
 spaces n = record (new_spaces None []) { types = known n }
 
 abbrev so_far : ℕ → Linking
-so_far n = record { scopes = spaces n ∷ []; cores = []; canons = []; resources = []; plan = Begin 0 ∷ []; end_types = [] }
+so_far n = record { scopes = spaces n ∷ []; cores = []; canons = []; resources = []; plan = Begin 0 ∷ []; end_types = []; has_room = true }
 
 pub known_length : (n : ℕ) → length (known n) ≡ suc n
 known_length zero = refl

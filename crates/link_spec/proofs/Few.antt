@@ -53,7 +53,7 @@ alias_few l n s sort (target.Outer up index) new (d, is, made) h = few_made l n 
 type_few : (l : Linking) (n : ℕ) (s : Spaces) (destructor : Option (Option ℕ)) (meaning : Meaning Closed) (new : Linking) → defined_makes l n s destructor meaning new → IsFew l → IsFew new
 type_few l n s (Some None) meaning new made h = subst IsFew (sym made) (few_with l n _ h)
 type_few l n s (Some (Some f)) meaning new (item, core, is, of_item, of_type, made) h = subst IsFew (sym made) (few_with l n _ h)
-type_few l n s None meaning new (closed, is, made) h = few_made (with_ends l (noted_type l.end_types closed)) n _ new made h
+type_few l n s None meaning new (closed, is, made) h = few_made (with_ends l (noted_type l.end_types closed) meaning.has_room) n _ new made h
 
 case_few : (l : Linking) (n : ℕ) (s : Spaces) (shape : Item-F Item Component) (new : Linking) → makes_case l n s shape new → IsFew l → IsFew new
 case_few l n s (Item-F.CoreModule m) new made h = few_made l n _ new made h

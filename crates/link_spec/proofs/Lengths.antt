@@ -43,7 +43,7 @@ alias_length l n s sort (target.Outer up index) new (d, is, made) = made_length 
 type_length : (l : Linking) (n : ℕ) (s : Spaces) (destructor : Option (Option ℕ)) (meaning : Meaning Closed) (new : Linking) → defined_makes l n s destructor meaning new → length new.scopes ≡ length l.scopes
 type_length l n s (Some None) meaning new made = ap (λ (l : Linking). length l.scopes) made ∙ length-set l.scopes n _
 type_length l n s (Some (Some f)) meaning new (item, core, is, of_item, of_type, made) = ap (λ (l : Linking). length l.scopes) made ∙ length-set l.scopes n _
-type_length l n s None meaning new (closed, is, made) = made_length (with_ends l (noted_type l.end_types closed)) n _ new made
+type_length l n s None meaning new (closed, is, made) = made_length (with_ends l (noted_type l.end_types closed) meaning.has_room) n _ new made
 
 case_length : (l : Linking) (n : ℕ) (s : Spaces) (shape : Item-F Item Component) (new : Linking) → makes_case l n s shape new → length new.scopes ≡ length l.scopes
 case_length l n s (Item-F.CoreModule m) new made = made_length l n _ new made

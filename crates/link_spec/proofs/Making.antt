@@ -90,7 +90,7 @@ alias_once l n s sort (target.Outer up index) a b (d, is, made) (d', is', made')
 
 type_once : (l : Linking) (n : ℕ) (s : Spaces) (meaning : Meaning Closed) (a b : Linking) → type_makes l n s meaning a → type_makes l n s meaning b → a ≡ b
 type_once l n s meaning a b (closed, is, made) (closed', is', made') =
-    both_made (type_made l n s) closed closed' a b (one_value meaning.means closed closed' is.0 is'.0) made made'
+    both_made (type_made l n s meaning.has_room) closed closed' a b (one_value meaning.means closed closed' is.0 is'.0) made made'
 
 resource_once : (l : Linking) (n : ℕ) (s : Spaces) (destructor : Option ℕ) (a b : Linking) → resource_makes l n s destructor a → resource_makes l n s destructor b → a ≡ b
 resource_once l n s None a b h k = h ∙ sym k

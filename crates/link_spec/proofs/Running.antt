@@ -86,6 +86,10 @@ within_told (suc budget) items n l here enough =
 
 -- Components.
 
+-- what is computed to be linked is linked
+pub links_within : (c : Component) (l : Linking) → run_within instance_limit root_begun 0 c.items ≡ Ok l → Links root_begun 0 c.items l
+links_within c l e = subst (λ (r : Result Linking LinkFault). Ends root_begun 0 c.items r) e (within_told instance_limit c.items 0 root_begun (omega arith) (omega arith))
+
 abbrev Answers : Component → Result Graph LinkFault → Type 0
 Answers c (Ok g) = IsLinked c g
 Answers c (Err fault) = IsLinkRefused c fault

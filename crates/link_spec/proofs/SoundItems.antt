@@ -1,6 +1,6 @@
 -- What an item makes of a sound linking is sound, and core instances and core functions of the Canonical ABI come only behind those
 -- that there are.
-use Rattle.std.proofs.Common.{◌≡◌, ℕ, suc, false, List, [], ◌∷◌, ◌++◌, length, map, refl, sym, ap, subst, append-nil, Option, Some, None}
+use Rattle.std.proofs.Common.{◌≡◌, ℕ, Bool, suc, false, List, [], ◌∷◌, ◌++◌, length, map, refl, sym, ap, subst, append-nil, Option, Some, None}
 use Rattle.std.specs.Prelude.{IfSome}
 use Rattle.std.specs.Option.{option_map, option_and_then}
 use Rattle.std.specs.List.{slice_get}
@@ -102,11 +102,11 @@ module _ (R : ModuleTree → Type 0) where
   pub with_spaces_sound : (l : Linking) (n : ℕ) (s : Spaces) → IsLinkingSound R l → AreSpacesSound R l.cores l.canons s → IsLinkingSound R (with_spaces l n s)
   with_spaces_sound l n s h k = record { scopes = all_set (AreSpacesSound R l.cores l.canons) l.scopes n s h.scopes k; imported = h.imported; made = h.made; called = h.called; modules_have = h.modules_have }
 
-  ends_sound : (l : Linking) (types : List ValType) → IsLinkingSound R l → IsLinkingSound R (with_ends l types)
-  ends_sound l types h = record { scopes = h.scopes; imported = h.imported; made = h.made; called = h.called; modules_have = h.modules_have }
+  ends_sound : (l : Linking) (types : List ValType) (room : Bool) → IsLinkingSound R l → IsLinkingSound R (with_ends l types room)
+  ends_sound l types room h = record { scopes = h.scopes; imported = h.imported; made = h.made; called = h.called; modules_have = h.modules_have }
 
-  ends_reached : (l : Linking) (types : List ValType) (new : Linking) → IsReached R (with_ends l types) new → IsReached R l new
-  ends_reached l types new r = record { sound = r.sound; more = r.more; longer = r.longer; others = r.others; wider = r.wider }
+  ends_reached : (l : Linking) (types : List ValType) (room : Bool) (new : Linking) → IsReached R (with_ends l types room) new → IsReached R l new
+  ends_reached l types room new r = record { sound = r.sound; more = r.more; longer = r.longer; others = r.others; wider = r.wider }
 
   made_reached : (l : Linking) (n : ℕ) (s : Spaces) (new : Linking) → new ≡ with_spaces l n s → IsLinkingSound R l → AreSpacesSound R l.cores l.canons s → IsReached R l new
   made_reached l n s new e h k = subst (IsReached R l) (sym e) (record { sound = with_spaces_sound l n s h k; more = []; longer = sym (append-nil l.cores); others = []; wider = sym (append-nil l.canons) })
@@ -211,8 +211,9 @@ module _ (R : ModuleTree → Type 0) where
   type_reached : (l : Linking) (n : ℕ) (s : Spaces) (type : DefType) (new : Linking) → IsLinkingSound R l → AreSpacesSound R l.cores l.canons s → type_makes l n s (type_meaning l n s type) new → IsReached R l new
   type_reached l n s type new h k (closed, means, made) =
       let types = noted_type l.end_types closed in
-      ends_reached l types new
-      (defined_reached (with_ends l types) n s (AType closed) new (ends_sound l types h) k made
+      let room = (type_meaning l n s type).has_room in
+      ends_reached l types room new
+      (defined_reached (with_ends l types room) n s (AType closed) new (ends_sound l types room h) k made
       (holds_at IsApart (type_meaning l n s type).means closed (meaning_apart type (levels_at l (n ∷ s.around)) (levels_apart l (n ∷ s.around) h)) means.0))
 
   -- Resources.

@@ -161,7 +161,7 @@ type_outcome l n s meaning =
     none_missing meaning.missing (
     after (there_or why.Typing meaning.means) (λ closed.
     only_if (not meaning.deep) why.Limit (
-    Ok (Makes (type_made l n s closed))))))
+    Ok (Makes (type_made l n s meaning.has_room closed))))))
 
 -- Types of resources.
 

@@ -3,7 +3,7 @@
 -- and "Import and Export Definitions"; CanonicalABI.md, `canon lift` and `canon lower`). At one item the reasons come in the order in which
 -- `LinkWhy` has them. The instantiation of a component makes more than one item can say; its own reasons are here, and what its
 -- component's items make stands in `Linked`.
-use Rattle.std.specs.Prelude.{◌≡◌, ◌<◌, ◌≤◌, ◌⊎◌, ℕ, true, false, cond, List, [], ◌∷◌, ◌++◌, length, map, set, Option, Some, None}
+use Rattle.std.specs.Prelude.{◌≡◌, ◌<◌, ◌≤◌, ◌⊎◌, ℕ, Bool, true, false, cond, List, [], ◌∷◌, ◌++◌, length, map, set, Option, Some, None}
 use Rattle.std.specs.Option.{option_map, option_and_then, MatchOption}
 use Rattle.std.specs.List.{slice_get, AllByRecursion, AllZip}
 use Rattle.std.specs.Str.{bytes_eq}
@@ -125,6 +125,7 @@ core_made l n s m imports = record {
   resources = l.resources;
   plan = l.plan ++ Make (length l.cores) ∷ [];
   end_types = l.end_types;
+  has_room = l.has_room;
 }
 
 abbrev pub core_instance_makes : Linking → ℕ → Spaces → CoreInstance → Linking → Type 0
@@ -211,12 +212,12 @@ type_has meaning why = ⊥
 abbrev pub StandsFor : Meaning Closed → Closed → Type 0
 StandsFor meaning closed = (meaning.means ≡ Some closed) × (meaning.deep ≡ false)
 
--- one type more, which is noted where it is one of streams or futures
-abbrev pub type_made : Linking → ℕ → Spaces → Closed → Linking
-type_made l n s closed = with_spaces (with_ends l (noted_type l.end_types closed)) n (with_definition s (AType closed))
+-- one type more, which is noted where it is one of streams or futures, and of which it is known whether there are numbers for what it brings
+abbrev pub type_made : Linking → ℕ → Spaces → Bool → Closed → Linking
+type_made l n s room closed = with_spaces (with_ends l (noted_type l.end_types closed) room) n (with_definition s (AType closed))
 
 abbrev pub type_makes : Linking → ℕ → Spaces → Meaning Closed → Linking → Type 0
-type_makes l n s meaning new = (closed : Closed) × StandsFor meaning closed × (new ≡ type_made l n s closed)
+type_makes l n s meaning new = (closed : Closed) × StandsFor meaning closed × (new ≡ type_made l n s meaning.has_room closed)
 
 abbrev pub defined_has : Spaces → Option (Option ℕ) → Meaning Closed → LinkWhy → Type 0
 defined_has s (Some destructor) meaning why = resource_has s destructor why
@@ -263,6 +264,7 @@ with_canon l n s f = record {
   resources = l.resources;
   plan = l.plan;
   end_types = noted_canon l.end_types f;
+  has_room = l.has_room;
 }
 
 -- Lowers: an index that is not there, also of an option; an option twice, or a function that cannot be lowered with the options.

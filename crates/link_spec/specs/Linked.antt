@@ -1,7 +1,7 @@
 -- Linking (Component Model, Explainer.md, "Instance Definitions"). The items of a component are linked in file order, and those
 -- of a component that is instantiated where it is instantiated, in an instance of their own. A component has a graph, or a
 -- first item that is refused.
-use Rattle.std.specs.Prelude.{◌≡◌, ◌<◌, ℕ, List, [], ◌∷◌, ◌++◌, length, map, Option, Some, None, codes}
+use Rattle.std.specs.Prelude.{◌≡◌, ◌<◌, ℕ, true, List, [], ◌∷◌, ◌++◌, length, map, Option, Some, None, codes}
 use Rattle.std.specs.List.{slice_get}
 use Rattle.ca_base.specs.Names.{AreDistinct}
 use Rattle.ca_base.specs.declared.placed.Placed.{Placed}
@@ -53,6 +53,7 @@ begun l c arguments = record {
   resources = l.resources;
   plan = l.plan ++ Begin (length l.scopes) ∷ [];
   end_types = l.end_types;
+  has_room = l.has_room;
 }
 
 -- the exports of a component instance
@@ -99,7 +100,7 @@ pub data IsRefusedAt : Linking → ℕ → List (Placed Item) → LinkFault → 
 
 -- the root begins
 abbrev pub root_begun : Linking
-root_begun = record { scopes = new_spaces None [] ∷ []; cores = []; canons = []; resources = []; plan = Begin 0 ∷ []; end_types = [] }
+root_begun = record { scopes = new_spaces None [] ∷ []; cores = []; canons = []; resources = []; plan = Begin 0 ∷ []; end_types = []; has_room = true }
 
 -- A function that can be called from outside, under its written name.
 pub record Callable : Type 0 where
@@ -154,3 +155,7 @@ IsLinked c g = (l : Linking) × Links root_begun 0 c.items l × (g ≡ graph_of 
 
 abbrev pub IsLinkRefused : Component → LinkFault → Type 0
 IsLinkRefused c fault = IsRefusedAt root_begun 0 c.items fault
+
+-- There are numbers for all resources that the types of instances bring to which a component leads.
+abbrev pub HasRoom : Component → Type 0
+HasRoom c = (l : Linking) × Links root_begun 0 c.items l × (l.has_room ≡ true)

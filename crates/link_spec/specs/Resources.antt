@@ -38,6 +38,7 @@ with_resource l n s destructor = record {
   resources = l.resources ++ record { instance = n; destructor = destructor } ∷ [];
   plan = l.plan;
   end_types = l.end_types;
+  has_room = l.has_room;
 }
 
 abbrev pub resource_makes : Linking → ℕ → Spaces → Option ℕ → Linking → Type 0

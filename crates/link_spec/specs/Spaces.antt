@@ -2,7 +2,7 @@
 -- items add in file order. Beside them stand what it imports and exports so far, what it is given, and the component
 -- instances that it sees around it. All component instances are kept by their numbers, in order of beginning, and all core
 -- instances, all core functions that the Canonical ABI makes and all resources by theirs, in order of making.
-use Rattle.std.specs.Prelude.{ℕ, List, [], ◌∷◌, ◌++◌, length, map, set, Option, Some, None}
+use Rattle.std.specs.Prelude.{ℕ, Bool, ◌&&◌, List, [], ◌∷◌, ◌++◌, length, map, set, Option, Some, None}
 use Rattle.std.specs.Option.{option_map, option_and_then}
 use Rattle.std.specs.List.{slice_get, flat_map}
 use Rattle.ca_types.specs.declared.types.ValType.{ValType}
@@ -59,7 +59,8 @@ new_spaces arguments around = record {
 }
 
 -- the component instances, the core instances, the core functions of the Canonical ABI and the resources so far, by their numbers,
--- what was made so far, and the types of streams and futures so far
+-- what was made so far, the types of streams and futures so far, and whether there are numbers for all resources that types of instances
+-- bring so far: where there are not, the numbers of resources say nothing
 pub record Linking : Type 0 where
   pub scopes : List Spaces
   pub cores : List CoreMake
@@ -67,6 +68,7 @@ pub record Linking : Type 0 where
   pub resources : List Resource
   pub plan : List Action
   pub end_types : List ValType
+  pub has_room : Bool
 
 -- how many definitions a space has
 abbrev pub core_size : Spaces → CoreSort → ℕ
@@ -142,9 +144,9 @@ with_definition s (AnInstance exports) = record s { instances = s.instances ++ e
 abbrev pub with_spaces : Linking → ℕ → Spaces → Linking
 with_spaces l n s = record l { scopes = set l.scopes n s }
 
--- the linking with these types of streams and futures
-abbrev pub with_ends : Linking → List ValType → Linking
-with_ends l types = record l { end_types = types }
+-- the linking with these types of streams and futures, behind a type with numbers for what types of instances in it bring, or without
+abbrev pub with_ends : Linking → List ValType → Bool → Linking
+with_ends l types room = record l { end_types = types; has_room = room && l.has_room }
 
 -- What an outer alias sees of a level: its types, each with its meaning, and its components. A type without a meaning stands in an
 -- instance type that is refused, and there `bool` may stand in the place of one that is too deep.

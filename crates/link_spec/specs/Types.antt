@@ -2,7 +2,7 @@
 -- names that it looks up are found, and all that it names is of the wanted sort. What keeps it from a meaning is told by
 -- its reason. A declaration of an instance type adds an index also where it has no meaning, so that each reason is looked for
 -- over the whole type.
-use Rattle.std.specs.Prelude.{ℕ, ◌+◌, Bool, ◌&&◌, is_none, cond, List, [], ◌∷◌, ◌++◌, length, map, Option, Some, None}
+use Rattle.std.specs.Prelude.{ℕ, ◌+◌, Bool, ◌&&◌, is_none, cond, nat_le, List, [], ◌∷◌, ◌++◌, length, map, Option, Some, None}
 use Rattle.std.specs.Option.{option_map, option_and_then, option_map_or}
 use Rattle.std.specs.List.{slice_get, list_all}
 use Rattle.ca_base.specs.Names.{first_twice, is_among}
@@ -19,7 +19,7 @@ use Rattle.comp_tree.specs.declared.types.FuncType as read_func
 use Rattle.comp_tree.specs.declared.types.DefType.{DefType, fold-DefType}
 use Rattle.comp_tree.specs.declared.types.DefType.TheOpen.{DefType-F, InstanceDecl-F}
 use Rattle.comp_graph.specs.Closed.{Closed, Func, Resource, Instance, Extern, OfFunc, OfType, OfInstance, Externs, EmptyType, WithExtern, extern_named, externs_of, func_of}
-use Rattle.link_values.specs.Resources.{first_brought, further_in, brought_behind}
+use Rattle.link_values.specs.Resources.{resource_room, first_brought, further_in, brought_behind}
 use Rattle.link_spec.specs.Brought.{moved, moved_externs, brought}
 use Rattle.link_spec.specs.Definitions.{Closure}
 use Rattle.link_spec.specs.Spaces.{Level}
@@ -164,7 +164,8 @@ with_alias around d sort (target.InstanceExport instance name) = declared_as d s
 with_alias around d sort (target.CoreInstanceExport instance name) = declared_as d sort absent
 with_alias around d sort (target.Outer up index) = with_outer d (own_level d ∷ around) sort up index
 
--- An export: one index more of what it is, and a name, which no export before it has.
+-- An export: one index more of what it is, and a name, which no export before it has. With it the instance type brings no more resources
+-- than there are numbers for.
 abbrev pub sort_of : ExternDesc → Sort
 sort_of (desc.Func index) = sorts.Func
 sort_of (desc.TypeEq index) = sorts.Type
@@ -178,7 +179,7 @@ extended name extern others = None
 abbrev pub under_name : Declared → Option Externs → List ℕ → Option Extern → Declared
 under_name d before name extern = record d {
   names = d.names ++ name ∷ [];
-  so_far = record d.so_far { means = cond (is_among name d.names) None (extended name extern before) };
+  so_far = record d.so_far { has_room = d.so_far.has_room && nat_le d.resources resource_room; means = cond (is_among name d.names) None (extended name extern before) };
 }
 
 -- What an export is to be: any type of resources is the next one that the instance type brings, and what the type of an instance
@@ -217,6 +218,7 @@ instance_meaning d = record {
   is_there = d.so_far.is_there;
   missing = d.so_far.missing;
   deep = d.so_far.deep;
+  has_room = d.so_far.has_room;
   means = option_map Instance d.so_far.means;
 }
 

@@ -39,7 +39,9 @@
 //! - `handles`: types of handles, and what passes them
 //! - `asked_resources`: imports and exports that are asked to be types of resources
 //! - `brought`: instance types that bring resources, and what is given for these
-//! - `unlinked`: what is read and not linked yet
+//! - `filled`: instance types in instance types, with what is given filled in
+//! - `refused`: built-ins of ends, and types of resources, that are refused
+//! - `verdicts`: whether components of all kinds of items are linked, and else the first item that is refused
 //! - `noted`: the types of streams and futures that graphs tell, each in a line
 //!
 //! Answers tell a definition of a core instance as `INSTANCE.INDEX`, and a core function that the Canonical ABI makes as `canon N`,
@@ -74,6 +76,21 @@ impl Answers for Linked {
     }
 }
 
+/// Components, of which it is told whether they are linked, and else what is refused.
+struct Checked;
+
+impl Answers for Checked {
+    fn answer(alloc: Global, given: &str) -> Result<String, Fail> {
+        let told = Linked::answer(alloc, given)?;
+        if told.starts_with("plan ") {
+            let mut linked = String::new(alloc);
+            linked.push_str("ok")?;
+            return Ok(linked);
+        }
+        Ok(told)
+    }
+}
+
 /// Components that are linked, of which the types of streams and futures are told.
 struct EndsNoted;
 
@@ -85,13 +102,14 @@ impl Answers for EndsNoted {
     }
 }
 
-/// The tables, which are of two kinds.
+/// The tables, which are of three kinds.
 struct LinkTables;
 
 impl Tables for LinkTables {
     fn told(alloc: Global, kind: &str, text: &str) -> Result<String, Fail> {
         match kind {
             "noted" => paragraphs_told::<EndsNoted>(alloc, text),
+            "checked" => paragraphs_told::<Checked>(alloc, text),
             _ => paragraphs_told::<Linked>(alloc, text),
         }
     }

@@ -2,7 +2,6 @@ pub mod FuncsLaid
 pub mod LayersTold
 pub mod NamedResources
 pub mod ParamsTyped
-pub mod RefsSame
 pub mod Renumbered
 pub mod RenumberedMade
 pub mod TypesGrow

@@ -4,11 +4,11 @@ use Rattle.ca_types.specs.declared.types.ValType.{ValType}
 use Rattle.ca_types.specs.declared.types.FuncType.{FuncType}
 use Rattle.laid_types.specs.Handles.{top_resource}
 use Rattle.comp_graph.specs.Closed.{Closed, Value, Func, Resource, Instance, Extern, OfFunc, OfType, OfInstance, names_in_func, names_resource, names_in_extern}
-use Rattle.link_types.specs.declared.refs.FuncTypeRef.{FuncTypeRef}
-use Rattle.link_types.specs.declared.refs.InstanceTypeRef.{InstanceTypeRef}
-use Rattle.link_types.specs.declared.refs.TypeRef.{TypeRef}
-use Rattle.link_types.specs.declared.refs.TypeRef.TheVariants as type_ref
-use Rattle.link_types.specs.declared.refs.ExternRef.TheVariants as extern_ref
+use Rattle.link_values.specs.declared.refs.FuncTypeRef.{FuncTypeRef}
+use Rattle.link_values.specs.declared.refs.InstanceTypeRef.{InstanceTypeRef}
+use Rattle.link_values.specs.declared.refs.TypeRef.{TypeRef}
+use Rattle.link_values.specs.declared.refs.TypeRef.TheVariants as type_ref
+use Rattle.link_values.specs.declared.refs.ExternRef.TheVariants as extern_ref
 use Rattle.link_types.specs.Table.{Table, IsValue, IsFunc, IsType, IsExtern}
 
 -- whether a type of values names a resource

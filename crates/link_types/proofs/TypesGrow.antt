@@ -11,12 +11,12 @@ use Rattle.link_values.specs.declared.layers.ExternLayer.{ExternLayer}
 use Rattle.link_values.specs.declared.layers.ExternLayer.TheVariants as of_extern
 use Rattle.link_values.specs.declared.layers.Layer.{Layer}
 use Rattle.link_values.specs.declared.layers.Layer.TheVariants as layer
-use Rattle.link_types.specs.declared.refs.FuncTypeRef.{FuncTypeRef}
-use Rattle.link_types.specs.declared.refs.InstanceTypeRef.{InstanceTypeRef}
-use Rattle.link_types.specs.declared.refs.TypeRef.{TypeRef}
-use Rattle.link_types.specs.declared.refs.TypeRef.TheVariants as type_ref
-use Rattle.link_types.specs.declared.refs.ExternRef.{ExternRef}
-use Rattle.link_types.specs.declared.refs.ExternRef.TheVariants as extern_ref
+use Rattle.link_values.specs.declared.refs.FuncTypeRef.{FuncTypeRef}
+use Rattle.link_values.specs.declared.refs.InstanceTypeRef.{InstanceTypeRef}
+use Rattle.link_values.specs.declared.refs.TypeRef.{TypeRef}
+use Rattle.link_values.specs.declared.refs.TypeRef.TheVariants as type_ref
+use Rattle.link_values.specs.declared.refs.ExternRef.{ExternRef}
+use Rattle.link_values.specs.declared.refs.ExternRef.TheVariants as extern_ref
 use Rattle.link_types.specs.Layered.{MayBeValue, IsParams, IsFuncLayer, IsExternsLayer, IsExternLayer, IsTypeLayer}
 use Rattle.link_types.specs.Numbering.{IsAdded}
 use Rattle.link_types.specs.Table.{Table, IsName, IsFunc, IsType, IsExtern, IsInstanceType, AreListed, Grows}

@@ -14,10 +14,10 @@ use Rattle.link_types.specs.declared.labels.LabelledType.{LabelledType}
 use Rattle.link_values.specs.declared.layers.ExternLayer.{ExternLayer}
 use Rattle.link_values.specs.declared.layers.Layer.TheVariants as layer
 use Rattle.link_types.specs.declared.maker.InstanceTypeMaker.{InstanceTypeMaker}
-use Rattle.link_types.specs.declared.refs.ExternRef.{ExternRef}
+use Rattle.link_values.specs.declared.refs.ExternRef.{ExternRef}
 use Rattle.link_types.specs.Labels.{IsParam, IsFuncOf}
 use Rattle.link_types.specs.Layered.{IsParams, IsFuncLayer, IsExternLayer}
-use Rattle.link_types.specs.Layering.{extern_layer}
+use Rattle.link_values.specs.Layering.{extern_layer}
 use Rattle.link_types.specs.Begun.{IsBegun}
 use Rattle.link_types.specs.Kept.{IsKept}
 use Rattle.link_types.specs.Table.{Table, IsName, IsFunc, IsExtern, IsInstanceType, Grows}

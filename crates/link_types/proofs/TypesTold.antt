@@ -10,17 +10,17 @@ use Rattle.comp_graph.specs.Closed.{Closed, Value, Func, Resource, Instance, Ext
 use Rattle.link_values.specs.declared.layers.TypeLayer.{TypeLayer}
 use Rattle.link_values.specs.declared.layers.TypeLayer.TheVariants as of_type
 use Rattle.link_values.specs.contracts.layers.TypeLayerPartialEq.TheImpl as type_eq
-use Rattle.link_types.specs.declared.refs.FuncTypeRef.{FuncTypeRef}
-use Rattle.link_types.specs.declared.refs.InstanceTypeRef.{InstanceTypeRef}
-use Rattle.link_types.specs.declared.refs.TypeRef.{TypeRef}
-use Rattle.link_types.specs.declared.refs.TypeRef.TheVariants as type_ref
-use Rattle.link_types.specs.declared.refs.ExternRef.{ExternRef}
-use Rattle.link_types.specs.declared.refs.ExternRef.TheVariants as extern_ref
+use Rattle.link_values.specs.declared.refs.FuncTypeRef.{FuncTypeRef}
+use Rattle.link_values.specs.declared.refs.InstanceTypeRef.{InstanceTypeRef}
+use Rattle.link_values.specs.declared.refs.TypeRef.{TypeRef}
+use Rattle.link_values.specs.declared.refs.TypeRef.TheVariants as type_ref
+use Rattle.link_values.specs.declared.refs.ExternRef.{ExternRef}
+use Rattle.link_values.specs.declared.refs.ExternRef.TheVariants as extern_ref
 use Rattle.link_types.specs.Numbering.{AreApart}
 use Rattle.std.specs.Option.{option_or}
 use Rattle.link_values.specs.Listed.{item_named}
 use Rattle.link_types.specs.Layered.{IsExternLayer, IsTypeLayer}
-use Rattle.link_types.specs.Layering.{type_layer, extern_layer}
+use Rattle.link_values.specs.Layering.{type_layer, extern_layer}
 use Rattle.link_types.specs.Table.{Table, AreDistinct, IsName, IsFunc, IsType, IsExtern, IsInstanceType, AreListed, MayBeExtern, MayBeEntry, in_order}
 use Rattle.link_values.proofs.Listings.{named_more}
 use Rattle.link_types.proofs.LayersTold.{func_one, func_told, externs_one, externs_told, type_one, type_told}

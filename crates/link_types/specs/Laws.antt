@@ -5,10 +5,10 @@ use Rattle.ca_types.specs.declared.types.FuncType.{FuncType}
 use Rattle.comp_graph.specs.Closed.{Closed, Extern, Externs}
 use Rattle.link_values.specs.declared.layers.TypeLayer.{TypeLayer}
 use Rattle.link_values.specs.declared.layers.Layer.{Layer}
-use Rattle.link_types.specs.declared.refs.FuncTypeRef.{FuncTypeRef}
-use Rattle.link_types.specs.declared.refs.InstanceTypeRef.{InstanceTypeRef}
-use Rattle.link_types.specs.declared.refs.TypeRef.{TypeRef}
-use Rattle.link_types.specs.declared.refs.ExternRef.{ExternRef}
+use Rattle.link_values.specs.declared.refs.FuncTypeRef.{FuncTypeRef}
+use Rattle.link_values.specs.declared.refs.InstanceTypeRef.{InstanceTypeRef}
+use Rattle.link_values.specs.declared.refs.TypeRef.{TypeRef}
+use Rattle.link_values.specs.declared.refs.ExternRef.{ExternRef}
 use Rattle.link_types.specs.Layered.{IsTypeLayer}
 use Rattle.link_types.specs.Table.{Table, AreDistinct, IsFunc, IsType, IsExtern, IsInstanceType, Grows}
 

@@ -5,6 +5,5 @@ pub mod Labels
 pub mod Laid
 pub mod Laws
 pub mod Layered
-pub mod Layering
 pub mod Numbering
 pub mod Table

@@ -5,8 +5,12 @@ ghost use Rattle.std.specs.List.{slice_get};
 ghost use Rattle.comp_graph.specs.Closed.{Externs, extern_named};
 ghost use Rattle.link_types.specs.Table.{IsName, IsInstanceType, MayBeExtern, MayBeEntry, in_order};
 
-use crate::refs::{ExternRef, InstanceTypeRef};
 use crate::types::Types;
+use link_values::{ExternRef, InstanceTypeRef};
+use std::alloc::AllocError;
+
+/// How many exports are looked at in one step.
+const LOOK_COUNT: usize = 8;
 
 /// What is asked for under a name: of equal names the first.
 pub fn asked_named(
@@ -50,4 +54,20 @@ pub fn asked_count(types: &Types<'_>, instance_type: InstanceTypeRef) -> usize
     } else {
         0
     }
+}
+
+/// Takes the steps of what is asked for of an instance, where its type names a resource: of each export it is looked at what it brings.
+/// It fails where fewer are left.
+pub fn take_looks(types: &mut Types<'_>, item: ExternRef) -> Result<(), AllocError>
+    ensures { types.new ≡ types.old }
+{
+    let ExternRef::Instance(instance_type) = item else {
+        return Ok(());
+    };
+    if !instance_type.names_resource {
+        return Ok(());
+    }
+    let count = asked_count(&*types, instance_type);
+    types.take_steps(count / LOOK_COUNT + 1)?;
+    Ok(())
 }

@@ -1,4 +1,4 @@
-//! The texts of labels, and labels with the numbers of value types, which function types are made of.
+//! Labels with the numbers of value types, which function types are made of.
 
 ghost use Rattle.std.specs.Prelude.{◌≡◌, ◌<◌, length, map, IfOk};
 ghost use Rattle.std.specs.List.{AllZip};
@@ -20,18 +20,7 @@ pub struct LabelledType<'a> {
     pub val_type: usize,
 }
 
-/// The texts of labels. It fails for want of memory alone, as do the other functions here.
-pub(crate) fn label_texts<'a>(alloc: Global, labels: &'a [Name]) -> Result<Vec<&'a str>, AllocError>
-    ensures { IfOk result (λ texts. map (λ l. l.now) texts.items ≡ labels.now) }
-{
-    let mut texts = Vec::new(alloc);
-    for label in labels {
-        texts.push(label.as_str())?;
-    }
-    Ok(texts)
-}
-
-/// The parameter.
+/// The parameter. It fails for want of memory alone, as do the other functions here that fail.
 fn closed_param(
     alloc: Global,
     values: &ValueTypes<'_>,

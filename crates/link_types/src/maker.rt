@@ -6,9 +6,8 @@ ghost use Rattle.link_types.specs.Table.{IsName, IsExtern, IsInstanceType, Grows
 ghost use Rattle.link_types.specs.Begun.{IsBegun};
 
 use crate::naming::names_behind;
-use crate::refs::{ExternRef, InstanceTypeRef};
 use crate::types::Types;
-use link_values::{Layer, Listing};
+use link_values::{ExternRef, InstanceTypeRef, Layer, Listing};
 use std::alloc::{AllocError, Global};
 
 /// A type of instances that is being made: its exports so far.

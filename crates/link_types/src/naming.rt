@@ -9,8 +9,8 @@ ghost use Rattle.comp_graph.specs.Closed.{Closed, Extern, names_in_func, names_i
 ghost use Rattle.link_types.specs.Table.{IsValue, IsFunc, IsType, IsExtern};
 
 use crate::laid_func::names_any;
-use crate::refs::{ExternRef, FuncTypeRef, TypeRef};
 use crate::types::Types;
+use link_values::{ExternRef, FuncTypeRef, TypeRef};
 
 /// Whether the value type of a number names a resource.
 fn names_in_value(types: &Types<'_>, number: usize) -> bool

@@ -3,14 +3,13 @@
 //! They are made again layer by layer, as trees: a type that stands in many places of another one is gone through at each. So each
 //! layer and each label takes one of the steps that the table allows for all such changes.
 
-ghost use Rattle.std.specs.Prelude.{◌≡◌, ℕ, List, [], map, Some, IfOk, IfSome};
+ghost use Rattle.std.specs.Prelude.{◌≡◌, map, Some, IfOk};
 ghost use Rattle.std.specs.Option.{option_map};
 ghost use Rattle.std.specs.List.{AllZip};
 ghost use Rattle.ca_types.specs.declared.types.FuncType.{FuncType};
 ghost use Rattle.ca_types.specs.declared.types.ValType.{ValType};
 ghost use Rattle.ca_types.specs.declared.types.ValType.TheViews as val_type_views;
 ghost use Rattle.ca_types.specs.declared.types.ValType.TheVariants as leaves;
-ghost use Rattle.laid_types.specs.Layers.{type_of, part_numbers};
 ghost use Rattle.link_values.specs.Resources as resources;
 ghost use Rattle.link_types.specs.Changes.{change_of};
 ghost use Rattle.link_types.specs.Layered.{MayBeValue};
@@ -18,13 +17,12 @@ ghost use Rattle.link_types.specs.Labels.{IsParam};
 ghost use Rattle.link_types.specs.Table.{IsValue, IsFunc, Grows};
 
 use crate::labels::LabelledType;
-use crate::refs::FuncTypeRef;
 use crate::types::Types;
 use ca_base::Name;
 use ca_types::{Case, Field, FuncType, Param, Shared, ValType};
 use comp_graph::graph_number;
 use laid_types::{LabelledCase, LabelledPart, ValTypeLayer};
-use link_values::Change;
+use link_values::{Change, FuncTypeRef, plain_layer};
 use std::alloc::{AllocError, Global};
 
 /// The length of text for which a label takes one step more.
@@ -43,27 +41,6 @@ fn changed(how: Renumbering<'_>, resource: u32) -> Result<u32, AllocError>
     ensures { IfOk result (λ number. number ≡ change_of how.entry.change how.entry.depth resource) }
 {
     Ok(graph_number(how.change.of(how.depth, resource as usize)?)?)
-}
-
-/// The layer of a type that has neither parts nor labels nor a resource.
-fn plain_layer(val_type: &ValType) -> Option<ValTypeLayer<'static, 'static>>
-    ensures there { IfSome result (λ layer. part_numbers layer ≡ []) }
-    ensures same { IfSome result (λ layer. (f : ℕ → ℕ) (values : List ValType) → type_of values layer ≡ resources.renumbered f val_type.now) }
-{
-    match val_type {
-        ValType::Bool => Some(ValTypeLayer::Bool),
-        ValType::S8 => Some(ValTypeLayer::S8),
-        ValType::U8 => Some(ValTypeLayer::U8),
-        ValType::S16 => Some(ValTypeLayer::S16),
-        ValType::U16 => Some(ValTypeLayer::U16),
-        ValType::S32 => Some(ValTypeLayer::S32),
-        ValType::U32 => Some(ValTypeLayer::U32),
-        ValType::S64 => Some(ValTypeLayer::S64),
-        ValType::U64 => Some(ValTypeLayer::U64),
-        ValType::Char => Some(ValTypeLayer::Char),
-        ValType::String => Some(ValTypeLayer::String),
-        _ => None,
-    }
 }
 
 impl<'a> Types<'a> {

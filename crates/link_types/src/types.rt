@@ -15,21 +15,26 @@ ghost use Rattle.link_types.specs.Laid.{IsLaid};
 ghost use Rattle.link_types.specs.Table.{no_types, IsName, IsValue, IsFunc, IsType, IsInstanceType, MayBeExtern, MayBeEntry, in_order, Grows, AreDistinct};
 
 use crate::kept_func::KeptFunc;
-use crate::labels::{LabelledType, label_texts, type_numbers};
+use crate::labels::{LabelledType, type_numbers};
 use crate::laid_func::LaidFunc;
-use crate::refs::{ExternRef, FuncTypeRef, InstanceTypeRef, TypeRef, are_same};
 use ca_base::Name;
 use ca_types::{FuncType, Shared};
 use comp_graph::{FuncTypes, NumberedFunc};
 use laid_types::{LaidType, ValTypeLayer};
-use link_values::{Layer, Layers, Listing, Names, ValueTypes};
+use link_values::{
+    ExternRef, FuncTypeRef, InstanceTypeRef, Layer, Layers, Listing, Names, TypeRef, ValueTypes,
+    are_same, label_texts,
+};
 use std::alloc::{AllocError, Global};
 use std::collections::BTreeMap;
 use std::marker::Model;
 
-/// How many layers of types may be gone through where numbers of resources are changed. A type that stands in others over and over
-/// comes to more, and then there is no memory for it.
+/// How many layers of types may be gone through where numbers of resources are changed, and how many times `LOOK_COUNT` exports where
+/// these are counted or found. A type that stands in others over and over comes to more, and then there is no memory for it.
 const STEP_LIMIT: usize = 4_194_304;
+
+/// How many types of instances that name a resource may stand in one another where they are gone through.
+pub const NESTING_LIMIT: usize = 1_000;
 
 /// Types, each layer of them once: two types are the same exactly where the numbers of their layers are. A type that is in
 /// another one stands there by its number, so nothing here nests. Contracts see the texts of names, the types of values, the
@@ -56,7 +61,7 @@ impl<'a> Model for Types<'a> {
     ghost use Rattle.ca_types.specs.contracts.types.ValType as val_type;
     ghost use Rattle.ca_types.specs.contracts.types.FuncType as func_type;
     ghost use Rattle.link_values.specs.contracts.layers.Layer as layer;
-    ghost use Rattle.link_types.specs.contracts.refs.ExternRef as extern_ref;
+    ghost use Rattle.link_values.specs.contracts.refs.ExternRef as extern_ref;
     ghost use Rattle.link_types.specs.Table.{Table};
     ghost use Rattle.link_types.specs.Kept.{IsKept};
 
@@ -87,7 +92,8 @@ impl<'a> Types<'a> {
         }
     }
 
-    /// Takes so many of the steps that are allowed for changes of types. It fails where fewer are left.
+    /// Takes so many of the steps that are allowed where types that name resources are gone through. It fails where fewer are left. How
+    /// many are left is no part of what contracts see.
     pub fn take_steps(&mut self, count: usize) -> Result<(), AllocError>
         ensures { self.new ≡ self.old }
     {

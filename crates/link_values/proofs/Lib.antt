@@ -12,6 +12,7 @@ pub mod ListOrder
 pub mod NamesAdded
 pub mod Numbered
 pub mod NumbersTold
+pub mod RefsSame
 pub mod Renumbered
 pub mod TypesSame
 pub mod Unnamed

@@ -3,6 +3,7 @@ pub mod Keyed
 pub mod Keys
 pub mod Labels
 pub mod Laws
+pub mod Layering
 pub mod Listed
 pub mod Numbering
 pub mod Order

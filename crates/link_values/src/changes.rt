@@ -10,8 +10,8 @@ use std::alloc::AllocError;
 /// The first number of resources that types of instances bring. Those that components define have lower ones.
 const FIRST_BROUGHT: usize = 2_147_483_648;
 
-/// How many resources a type of instances may bring.
-const RESOURCE_ROOM: usize = 1_048_576;
+/// How many resources a type of instances may bring. Behind so many stand the numbers of what the type of instances around it brings.
+pub const RESOURCE_ROOM: usize = 1_048_576;
 
 /// A change of the numbers of resources in types. What is brought by types of instances that stand between stays as it is.
 #[derive(Clone, Copy)]

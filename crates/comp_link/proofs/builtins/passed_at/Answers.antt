@@ -6,7 +6,7 @@ use Rattle.comp_graph.specs.Passed.{MayBeAt}
 use Rattle.link_spec.specs.Definitions.{Exports}
 use Rattle.link_spec.specs.Spaces.{Spaces, Linking}
 use Rattle.link_spec.specs.ValueTypes.{close_passed}
-use Rattle.link_types.specs.declared.refs.TypeRef.{TypeRef}
+use Rattle.link_values.specs.declared.refs.TypeRef.{TypeRef}
 use Rattle.link_types.specs.Table.{IsType}
 use Rattle.link_meanings.specs.Meant.{IsFoundAs}
 use Rattle.comp_link.specs.State.{IsAt}

@@ -9,7 +9,7 @@ use Rattle.link_spec.specs.Spaces.{definition_at}
 use Rattle.link_spec.specs.Items.{meant_of, lacking}
 use Rattle.link_spec.specs.Computed.{export_outcome}
 use Rattle.link_spec.specs.declared.fault.LinkWhy.TheVariants as why
-use Rattle.link_types.specs.declared.refs.TypeRef.{TypeRef}
+use Rattle.link_values.specs.declared.refs.TypeRef.{TypeRef}
 use Rattle.link_types.specs.Table.{IsType}
 use Rattle.link_instances.specs.References.{Stands}
 use Rattle.comp_link.specs.State.{world_of}

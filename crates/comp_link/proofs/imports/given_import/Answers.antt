@@ -6,7 +6,7 @@ use Rattle.link_spec.specs.declared.fault.LinkWhy.TheVariants as why
 use Rattle.link_spec.specs.Definitions.{export_named}
 use Rattle.link_spec.specs.Items.{meant_of, lacking}
 use Rattle.link_spec.specs.Computed.{Outcome, import_outcome}
-use Rattle.link_types.specs.declared.refs.TypeRef.{TypeRef}
+use Rattle.link_values.specs.declared.refs.TypeRef.{TypeRef}
 use Rattle.link_types.specs.Table.{IsType}
 use Rattle.comp_link.specs.State.{world_of}
 use Rattle.comp_link.specs.Ready.{as_wanted, imported}

@@ -3,7 +3,7 @@ use Rattle.std.specs.List.{AllZip}
 use Rattle.link_spec.specs.declared.fault.LinkWhy.TheVariants as why
 use Rattle.link_spec.specs.Items.{meant_of}
 use Rattle.link_spec.specs.Computed.{import_outcome, root_given}
-use Rattle.link_types.specs.declared.refs.TypeRef.{TypeRef}
+use Rattle.link_values.specs.declared.refs.TypeRef.{TypeRef}
 use Rattle.link_types.specs.Table.{IsType, IsExtern}
 use Rattle.comp_link.specs.State.{world_of}
 use Rattle.comp_link.specs.Ready.{imported}

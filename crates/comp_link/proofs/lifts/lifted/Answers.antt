@@ -3,7 +3,7 @@ use Rattle.std.specs.List.{list_all}
 use Rattle.link_spec.specs.declared.fault.LinkWhy.TheVariants as why
 use Rattle.link_spec.specs.Canons.{Given, is_option_there}
 use Rattle.link_spec.specs.Computed.{lifted_to, lifted_of}
-use Rattle.link_types.specs.declared.refs.TypeRef.{TypeRef}
+use Rattle.link_values.specs.declared.refs.TypeRef.{TypeRef}
 use Rattle.link_types.specs.Table.{IsType}
 use Rattle.link_instances.specs.References.{IsLifted}
 use Rattle.comp_link.specs.State.{world_of}

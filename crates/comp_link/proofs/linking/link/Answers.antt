@@ -10,7 +10,7 @@ use Rattle.comp_link.specs.State.{Stands}
 use Rattle.comp_link.specs.Told.{IsReason, IsTold}
 use Rattle.comp_link.specs.Reached.{root_begins}
 use Rattle.comp_link.proofs.Passing.{done}
-use Rattle.comp_link.proofs.Whole.{refused_told, linked_told, few_scopes, few_cores, canons_typed}
+use Rattle.comp_link.proofs.Whole.{refused_told, linked_told, room_told, few_scopes, few_cores, canons_typed}
 use Rattle.comp_link.proofs.linking.link.Goals as goal
 
 pub returns-in_err-link_items-clause-refused : goal.returns-in_err-link_items-clause-refused
@@ -44,6 +44,12 @@ returns-clause-ok c =
     linked_told c.args.component.now c.link_items.new.linker
     (subst (λ (items : List (Placed Item)). IsTold (λ _ last. Stands c.link_items.new.linker last) done (run_within instance_limit root_begun 0 items)) c.as_slice-items.ensures
     (c.in_ok-link_items.ensures.told [] root_begun c.in_ok-linker.ensures.ok c.in_ok-linker.ensures.live root_begins)) _ c.in_ok-graph_of.ensures
+
+pub returns-clause-room : goal.returns-clause-room
+returns-clause-room c =
+    room_told c.args.component.now c.link_items.new.linker
+    (subst (λ (items : List (Placed Item)). IsTold (λ _ last. Stands c.link_items.new.linker last) done (run_within instance_limit root_begun 0 items)) c.as_slice-items.ensures
+    (c.in_ok-link_items.ensures.told [] root_begun c.in_ok-linker.ensures.ok c.in_ok-linker.ensures.live root_begins))
 
 pub returns-clause-shallow : goal.returns-clause-shallow
 returns-clause-shallow c = c.graphs_are_sound.ensures.shallow c.args.component.now _ (returns-clause-ok c)

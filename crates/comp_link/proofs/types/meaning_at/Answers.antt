@@ -5,10 +5,10 @@ use Rattle.link_spec.specs.Definitions.{Closure, Exports}
 use Rattle.link_spec.specs.Spaces as spaces
 use Rattle.link_spec.specs.Spaces.{Spaces, Linking, levels_at}
 use Rattle.link_spec.specs.Types.{meaning_of}
-use Rattle.link_types.specs.declared.refs.TypeRef.{TypeRef}
+use Rattle.link_values.specs.declared.refs.TypeRef.{TypeRef}
 use Rattle.link_types.specs.Table.{IsType}
 use Rattle.link_meanings.specs.declared.levels.Level.{Level}
-use Rattle.link_types.specs.declared.meant.Meant.{Meant}
+use Rattle.link_values.specs.declared.meant.Meant.{Meant}
 use Rattle.link_meanings.specs.Meant.{IsMeaning}
 use Rattle.link_meanings.specs.Levels.{AreLevels}
 use Rattle.comp_link.specs.declared.scope.Scope.{Scope}

@@ -1,4 +1,4 @@
-use Rattle.std.proofs.Common.{◌≡◌, ◌∷◌, refl, sym, ap, ◌∙◌, None}
+use Rattle.std.proofs.Common.{◌≡◌, ◌∷◌, true, refl, sym, ap, ◌∙◌, None}
 use Rattle.std.specs.Option.{option_map}
 use Rattle.link_spec.specs.declared.fault.LinkWhy.TheVariants as why
 use Rattle.link_spec.specs.Spaces.{levels_at}
@@ -32,6 +32,6 @@ returns-clause-made c = λ bases l s at.
     let m = c.in_ok-meant.ensures.means bases l s at in
     let none : meaning.missing ≡ None = sym m.missing ∙ ap (option_map text_of) c.in_default.is in
     let one = some_found (IsType k.types) c.in_ok-meant.meant.means c.in-Some-means.closed meaning.means c.in-Some-means.is m.means in
-    told_value (IsTyped k.types l n s) c.in-Some-means.closed (Makes (type_made l n s one.0)) (type_outcome l n s meaning)
-    (type_told l n s meaning one.0 (sym m.is_there ∙ c.if-not-meant.false) none one.1 (sym m.deep ∙ c.if-meant.false))
+    told_value (IsTyped k.types l n s) c.in-Some-means.closed (Makes (type_made l n s true one.0)) (type_outcome l n s meaning)
+    (type_told l n s meaning one.0 (sym m.is_there ∙ c.if-not-meant.false) none one.1 (sym m.deep ∙ c.if-meant.false) m.has_room)
     (one.0, one.2, refl)

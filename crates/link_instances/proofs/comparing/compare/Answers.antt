@@ -1,5 +1,5 @@
 use Rattle.std.proofs.Common.{sym, ◌∙◌, subst}
-use Rattle.link_types.specs.declared.refs.ExternRef.{ExternRef}
+use Rattle.link_values.specs.declared.refs.ExternRef.{ExternRef}
 use Rattle.link_types.specs.Table.{IsExtern}
 use Rattle.link_instances.proofs.Compares.{compared_func, compared_type, compared_instance}
 use Rattle.link_instances.proofs.comparing.compare.Goals as goal

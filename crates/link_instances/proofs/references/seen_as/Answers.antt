@@ -1,6 +1,6 @@
 use Rattle.std.proofs.Common.{subst}
-use Rattle.link_types.specs.declared.refs.ExternRef.{ExternRef}
-use Rattle.link_types.specs.declared.refs.ExternRef.TheVariants as extern_ref
+use Rattle.link_values.specs.declared.refs.ExternRef.{ExternRef}
+use Rattle.link_values.specs.declared.refs.ExternRef.TheVariants as extern_ref
 use Rattle.link_instances.specs.declared.references.DefinitionRef.{DefinitionRef}
 use Rattle.link_instances.specs.declared.references.DefinitionRef.TheVariants as definition_ref
 use Rattle.link_types.specs.Table.{IsExtern}

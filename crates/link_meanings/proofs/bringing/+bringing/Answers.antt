@@ -29,4 +29,4 @@ with_item-returns-in_ok-with_type-in-Type-clause-ok t c = λ given found extern 
 pub with_item-returns-in_ok-with_instance-in-Instance-clause-ok : goal.with_item-returns-in_ok-with_instance-in-Instance-clause-ok
 with_item-returns-in_ok-with_instance-in-Instance-clause-ok t c = λ given found extern h k.
     instance_counted c.args.types.now c.in-Instance.instance_type c.args.count c.in_ok-with_instance-in-Instance.field-0
-    (λ given found externs m n. c.in_ok-with_instance-in-Instance.ensures.ok given found externs (rw c.take_steps.ensures m) n) given found extern (rw c.in-Instance.is at h) k
+    (λ given found externs m n. c.in_ok-with_instance-in-Instance.ensures.ok given found externs (rw c.take_looks.ensures m) n) given found extern (rw c.in-Instance.is at h) k

@@ -1,5 +1,5 @@
 use Rattle.std.proofs.Common.{◌∙◌, ap, sym, Option, Some}
-use Rattle.link_types.specs.declared.refs.TypeRef.{TypeRef}
+use Rattle.link_values.specs.declared.refs.TypeRef.{TypeRef}
 use Rattle.link_meanings.specs.Levels.{enclosed_types}
 use Rattle.link_meanings.proofs.Descriptions.{described_absent, described_none, described_some}
 use Rattle.link_meanings.proofs.described.described_at.Goals as goal

@@ -1,5 +1,5 @@
 use Rattle.std.proofs.Common.{◌∙◌, ap, sym, subst, Option, Some}
-use Rattle.link_types.specs.declared.refs.TypeRef.{TypeRef}
+use Rattle.link_values.specs.declared.refs.TypeRef.{TypeRef}
 use Rattle.link_meanings.specs.declared.levels.Enclosing.{Enclosing}
 use Rattle.link_meanings.specs.Meant.{IsFoundAs}
 use Rattle.link_meanings.specs.Levels.{IsEnclosing}

@@ -1,5 +1,5 @@
 use Rattle.std.proofs.Common.{subst, Option}
-use Rattle.link_types.specs.declared.refs.ExternRef.{ExternRef}
+use Rattle.link_values.specs.declared.refs.ExternRef.{ExternRef}
 use Rattle.link_types.specs.declared.maker.InstanceTypeMaker.{InstanceTypeMaker}
 use Rattle.link_types.specs.Table.{IsExtern}
 use Rattle.link_types.specs.Begun.{IsBegun}

@@ -33,6 +33,7 @@ returns-clause-ok c bases l s at passes is =
       plan = at.state.plan;
       ends = rw (c.in_ok-note.ensures, c.canon_number-named.ensures)
           (canon_noted (type_table k.types) c.are_distinct.ensures.values k.end_types l.end_types c.args.passed c.args.canon at.state.ends passes);
+      room = at.state.room;
     }
 
 pub returns-clause-live : goal.returns-clause-live

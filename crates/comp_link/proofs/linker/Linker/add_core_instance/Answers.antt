@@ -25,6 +25,7 @@ returns-clause-ok c bases l s m items at is imports =
       cores = rw (at.state.cores, imports, c.in_ok-owner.ensures) refl;
       plan = rw (at.state.plan, c.in_ok-push.ensures.items, number) refl;
       ends = at.state.ends;
+      room = at.state.room;
     } in
     subst (λ (cores : CoreLists). IsState bases (record k { scopes = with_item k.scopes c.args.n c.add_core_instance.new.self; cores = cores; plan = c.push.new.self }) (core_made l c.args.n s m items)) (sym (c.in_ok-exports.ensures.ok m is)) made
 

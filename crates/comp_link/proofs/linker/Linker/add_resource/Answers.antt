@@ -26,6 +26,7 @@ returns-clause-ok c bases l s at =
       resources = pushed;
       plan = at.state.plan;
       ends = at.state.ends;
+      room = at.state.room;
     } in
     let here : IsAt bases grown c.args.n more s = record { state = state; there = at.there; live = at.live } in
     let many : c.len-before.result ≡ length l.resources = c.len-before.ensures ∙ k.resources.ok.0 ∙ ap length (sym at.state.resources) in

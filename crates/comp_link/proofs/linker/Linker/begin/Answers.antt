@@ -25,6 +25,7 @@ returns-clause-ok c bases l closure given h around is =
       resources = h.resources;
       plan = rw (h.plan, c.in_ok-push-2.ensures.items, number) refl;
       ends = h.ends;
+      room = h.room;
     }
 
 pub returns-clause-live : goal.returns-clause-live

@@ -23,6 +23,7 @@ returns-clause-ok c =
       resources = sym c.new-10.ensures.items;
       plan = sym (c.in_ok-push.ensures.items ∙ ap (λ (before : List Action). before ++ Begin 0 ∷ []) c.new-plan.ensures.items);
       ends = rw c.new-11.ensures tt;
+      room = refl;
     }
 
 pub returns-clause-live : goal.returns-clause-live

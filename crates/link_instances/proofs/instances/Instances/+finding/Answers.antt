@@ -4,7 +4,7 @@ use Rattle.std.proofs.lemmas.Result.{on_ok_weaker}
 use Rattle.comp_graph.specs.Closed.{Instance}
 use Rattle.link_spec.specs.Definitions.{export_named}
 use Rattle.link_spec.specs.Brought.{exports_given}
-use Rattle.link_types.specs.declared.refs.ExternRef.{ExternRef}
+use Rattle.link_values.specs.declared.refs.ExternRef.{ExternRef}
 use Rattle.link_types.specs.Table.{Table, IsInstanceType, in_order}
 use Rattle.link_instances.specs.Instances.{AreInstances}
 use Rattle.link_instances.specs.Found.{AreExports}
@@ -43,4 +43,4 @@ find_item-returns-in-Instance-clause-ok t c =
     (λ finds. λ w d extern are is asked.
     instance_item_found c.args.types.now c.in-Instance.instance_type d c.args.found.now.items c.find_all.new.found.items
     (λ externs h. finds w (exports_given d) externs are (c.exports_given.ensures c.args.types.now w d is) h) extern (rw c.in-Instance.is at asked))
-    (rw c.take_steps.ensures at c.find_all.ensures.ok)
+    (rw c.take_looks.ensures at c.find_all.ensures.ok)

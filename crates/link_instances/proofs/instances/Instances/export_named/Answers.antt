@@ -1,6 +1,6 @@
 use Rattle.std.proofs.Common.{subst, Option, None, Some}
 use Rattle.comp_graph.specs.Closed.{extern_named}
-use Rattle.link_types.specs.declared.refs.ExternRef.{ExternRef}
+use Rattle.link_values.specs.declared.refs.ExternRef.{ExternRef}
 use Rattle.link_types.specs.Table.{MayBeExtern}
 use Rattle.link_instances.proofs.Finding.{lacks, has, sees}
 use Rattle.link_instances.proofs.instances.Instances.export_named.Goals as goal

@@ -1,6 +1,6 @@
 use Rattle.std.proofs.Common.{◌≡◌, ℕ, sym, ◌∙◌, subst, Option, None, Some}
 use Rattle.std.specs.List.{slice_get}
-use Rattle.link_types.specs.declared.refs.ExternRef.{ExternRef}
+use Rattle.link_values.specs.declared.refs.ExternRef.{ExternRef}
 use Rattle.link_types.specs.Table.{in_order}
 use Rattle.link_instances.specs.declared.references.DefinitionRef.{DefinitionRef}
 use Rattle.link_instances.specs.References.{IsEntryAt, listed, seen_ref}

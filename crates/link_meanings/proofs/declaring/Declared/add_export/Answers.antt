@@ -1,8 +1,9 @@
-use Rattle.std.proofs.Common.{◌≡◌, ◌∙◌, ◌+◌, ℕ, List, refl, ap, ap₂, sym, subst}
+use Rattle.std.proofs.Common.{◌≡◌, ◌∙◌, ◌≤◌, ◌+◌, ℕ, List, refl, ap, ap₂, sym, subst}
 use Rattle.std.specs.Prelude.{◌||◌, not}
 use Rattle.std.specs.Str.{bytes_eq}
 use Rattle.ca_base.specs.Names.{has}
 use Rattle.comp_tree.specs.declared.instances.Sort.{Sort}
+use Rattle.link_values.specs.Resources.{resource_room}
 use Rattle.link_spec.specs.Types.{described, brings, declared_as, sort_of}
 use Rattle.link_types.specs.Table.{Table, IsName, IsExtern}
 use Rattle.link_meanings.specs.declared.declaring.Declared.{Declared}
@@ -42,4 +43,4 @@ returns-clause-ok c = λ closures d h.
     (declared_stays after grown c.in_ok-extend.ensures.grows closures more (record (declared_as d sort extern) { resources = count }) (counted after closures mid (declared_as d sort extern) count declared)) (export_same d sort extern name)
     (c.in_ok-is_new.ensures.new ∙ ap (λ (n : List ℕ). not (has mid.names n)) c.as_str-2.ensures) all
     (c.in_ok-extend.ensures.ok name extern.means (declared_as d sort extern).so_far.means declared.so_far.means kept found)
-    c.in_ok-extend.ensures.is_there c.in_ok-extend.ensures.missing c.in_ok-extend.ensures.deep refl refl refl counts
+    c.in_ok-extend.ensures.is_there c.in_ok-extend.ensures.missing c.in_ok-extend.ensures.deep refl refl refl counts (subst (λ n. n ≤ resource_room) counts c.in_ok-resources.ensures.1)

@@ -1,6 +1,6 @@
 use Rattle.std.proofs.Common.{◌≡◌, rules, subst}
 use Rattle.link_values.specs.contracts.layers.TypeLayerPartialEq.TheImpl as type_eq
-use Rattle.link_types.specs.Layering.{type_layer}
+use Rattle.link_values.specs.Layering.{type_layer}
 use Rattle.link_types.specs.Kept.{IsKept}
 use Rattle.link_types.proofs.TypesTold.{same_types, layers_tested}
 use Rattle.link_types.proofs.types.Types.same_type.Goals as goal

@@ -1,28 +1,28 @@
 //! References into a table of types.
 
 ghost use Rattle.std.specs.Prelude.{◌≡◌, IsTrue};
-ghost use Rattle.link_types.specs.Layering.{type_layer, extern_layer};
+ghost use Rattle.link_values.specs.Layering.{type_layer, extern_layer};
 
-use link_values::{ExternLayer, TypeLayer};
+use crate::layers::{ExternLayer, TypeLayer};
 
 /// A function type of a table.
 #[derive(Clone, Copy, PartialEq)]
 pub struct FuncTypeRef {
     /// The number of its layer, which tells it from other types.
-    pub(crate) layer: usize,
+    pub layer: usize,
     /// Its number among the function types.
-    pub(crate) number: usize,
+    pub number: usize,
 }
 
 /// A type of instances of a table.
 #[derive(Clone, Copy, PartialEq, Eq, PartialOrd, Ord)]
 pub struct InstanceTypeRef {
     /// The number of its layer, which tells it from other types.
-    pub(crate) layer: usize,
+    pub layer: usize,
     /// Its number among the types of instances.
-    pub(crate) number: usize,
+    pub number: usize,
     /// Whether it names a resource.
-    pub(crate) names_resource: bool,
+    pub names_resource: bool,
 }
 
 /// A closed type.
@@ -60,7 +60,7 @@ impl FuncTypeRef {
 
 impl TypeRef {
     /// The outer layer.
-    pub(crate) fn layer(self) -> TypeLayer
+    pub fn layer(self) -> TypeLayer
         ensures { result ≡ type_layer self }
     {
         match self {
@@ -74,7 +74,7 @@ impl TypeRef {
 
 impl ExternRef {
     /// The outer layer.
-    pub(crate) fn layer(self) -> ExternLayer
+    pub fn layer(self) -> ExternLayer
         ensures { result ≡ extern_layer self }
     {
         match self {
@@ -86,7 +86,7 @@ impl ExternRef {
 }
 
 /// Whether these exports are the same references under the same names, in the same order.
-pub(crate) fn are_same(given: &[(usize, ExternRef)], other: &[(usize, ExternRef)]) -> bool
+pub fn are_same(given: &[(usize, ExternRef)], other: &[(usize, ExternRef)]) -> bool
     ensures { IsTrue result → given.now ≡ other.now }
 {
     given == other

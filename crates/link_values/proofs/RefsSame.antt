@@ -4,16 +4,16 @@ use Rattle.std.specs.Prelude.{◌==◌}
 use mathlib.Core.Bool.{beq}
 use Rattle.std.specs.Cmp.Lexicographic.{pointwise}
 use Rattle.std.proofs.lemmas.Bool.Decides.{Decides-eqb}
-use Rattle.link_types.specs.declared.refs.FuncTypeRef.{FuncTypeRef}
-use Rattle.link_types.specs.declared.refs.InstanceTypeRef.{InstanceTypeRef}
-use Rattle.link_types.specs.declared.refs.TypeRef.{TypeRef}
-use Rattle.link_types.specs.declared.refs.TypeRef.TheVariants as type_ref
-use Rattle.link_types.specs.declared.refs.ExternRef.{ExternRef}
-use Rattle.link_types.specs.declared.refs.ExternRef.TheVariants as extern_ref
-use Rattle.link_types.specs.contracts.refs.FuncTypeRefPartialEq.TheImpl as func_eq
-use Rattle.link_types.specs.contracts.refs.InstanceTypeRefPartialEq.TheImpl as instance_eq
-use Rattle.link_types.specs.contracts.refs.TypeRefPartialEq.TheImpl as type_eq
-use Rattle.link_types.specs.contracts.refs.ExternRefPartialEq.TheImpl as extern_eq
+use Rattle.link_values.specs.declared.refs.FuncTypeRef.{FuncTypeRef}
+use Rattle.link_values.specs.declared.refs.InstanceTypeRef.{InstanceTypeRef}
+use Rattle.link_values.specs.declared.refs.TypeRef.{TypeRef}
+use Rattle.link_values.specs.declared.refs.TypeRef.TheVariants as type_ref
+use Rattle.link_values.specs.declared.refs.ExternRef.{ExternRef}
+use Rattle.link_values.specs.declared.refs.ExternRef.TheVariants as extern_ref
+use Rattle.link_values.specs.contracts.refs.FuncTypeRefPartialEq.TheImpl as func_eq
+use Rattle.link_values.specs.contracts.refs.InstanceTypeRefPartialEq.TheImpl as instance_eq
+use Rattle.link_values.specs.contracts.refs.TypeRefPartialEq.TheImpl as type_eq
+use Rattle.link_values.specs.contracts.refs.ExternRefPartialEq.TheImpl as extern_eq
 
 both : (a b : Bool) → (a && b) ≡ true → (a ≡ true) × (b ≡ true)
 both true b h = (refl, h)

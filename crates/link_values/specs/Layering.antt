@@ -3,10 +3,10 @@ use Rattle.link_values.specs.declared.layers.TypeLayer.{TypeLayer}
 use Rattle.link_values.specs.declared.layers.TypeLayer.TheVariants as of_type
 use Rattle.link_values.specs.declared.layers.ExternLayer.{ExternLayer}
 use Rattle.link_values.specs.declared.layers.ExternLayer.TheVariants as of_extern
-use Rattle.link_types.specs.declared.refs.TypeRef.{TypeRef}
-use Rattle.link_types.specs.declared.refs.TypeRef.TheVariants as type_ref
-use Rattle.link_types.specs.declared.refs.ExternRef.{ExternRef}
-use Rattle.link_types.specs.declared.refs.ExternRef.TheVariants as extern_ref
+use Rattle.link_values.specs.declared.refs.TypeRef.{TypeRef}
+use Rattle.link_values.specs.declared.refs.TypeRef.TheVariants as type_ref
+use Rattle.link_values.specs.declared.refs.ExternRef.{ExternRef}
+use Rattle.link_values.specs.declared.refs.ExternRef.TheVariants as extern_ref
 
 abbrev pub type_layer : TypeRef → TypeLayer
 type_layer (type_ref.Value type) = of_type.Value type
