@@ -1,4 +1,5 @@
 pub mod Entries
 pub mod Exact
+pub mod Numbers
 pub mod Plain
 pub mod Readings

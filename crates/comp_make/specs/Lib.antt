@@ -7,4 +7,6 @@ pub mod Lists
 pub mod Module
 pub mod Numbers
 pub mod Opcodes
+pub mod Pipe
+pub mod PipeParts
 pub mod Types

@@ -7,14 +7,15 @@ use Rattle.ca_base.specs.declared.memory.MemoryOr.{MemoryOr}
 use Rattle.ca_base.specs.declared.memory.MemoryOr.TheVariants as or
 use Rattle.ca_io.specs.Bytes.{grown, TookFront}
 use Rattle.programs.specs.declared.program.Program.{Program}
-use Rattle.trace_show.specs.declared.label.Label.{Label}
+use Rattle.trace_labels.specs.declared.label.Label.{Label}
 use Rattle.trace_show.specs.LabelText.{label_text, trace_text}
 use Rattle.trace_show.specs.Trace.{put_so_far, HasPutCause}
+use Rattle.trace_show.specs.Tally.{Tally, with_line, with_lines}
 use Rattle.world_parts.specs.declared.parts.Flow.{Flow}
 use Rattle.world_parts.specs.declared.parts.Parts.{Parts}
 use Rattle.world_parts.specs.declared.parts.Stop.{Stop}
 use Rattle.world_parts.specs.declared.parts.Stop.TheVariants as stop
-use Rattle.trace_show.specs.declared.trap.TrapName.{TrapName}
+use Rattle.trace_labels.specs.declared.trap.TrapName.{TrapName}
 use Rattle.world_parts.specs.Held.{Held, held, Done}
 use Rattle.world_stacks.specs.Views.{PileView}
 use Rattle.value_parts.specs.declared.to_pass.Passing.{Passing}
@@ -162,6 +163,38 @@ puts_end before mid taken so_far kept lines k line e h t within is =
     subst (Took taken) (line_told (put_so_far mid kept) line (drop k lines) (drop (suc k) lines) (grown before (trace_text lines)) (line_at lines k line within is) h)
     (took_more taken (grown (put_so_far mid kept) (label_text line)) (trace_text (drop (suc k) lines)) (took_front mid taken kept (label_text line) t))
 
+-- What is counted of lines that are put, one behind the other.
+tally_told : (t m u : Tally) (line : Label) (some others lines : List Label) → some ≡ line ∷ others → with_lines m some ≡ with_lines t lines → u ≡ with_line m line
+    → with_lines u others ≡ with_lines t lines
+tally_told t m u line some others lines is told one =
+    ap (λ (n : Tally). with_lines n others) one ∙ sym (ap (λ (ls : List Label). with_lines m ls) is) ∙ told
+
+pub tally_put : (t m u : Tally) (lines : List Label) (k : ℕ) (line : Label) → with_lines m (drop k lines) ≡ with_lines t lines → u ≡ with_line m line → k < length lines
+    → line ≡ slice_index_or lines k line → with_lines u (drop (k + 1) lines) ≡ with_lines t lines
+tally_put t m u lines k line told one within is =
+    let next : suc k ≡ k + 1 = omega arith in
+    subst (λ (n : ℕ). with_lines u (drop n lines) ≡ with_lines t lines) next
+    (tally_told t m u line (drop k lines) (drop (suc k) lines) lines (line_at lines k line within is) told one)
+
+none_left : (lines : List Label) (k : ℕ) → length lines ≤ k → drop k lines ≡ []
+none_left [] zero h = refl
+none_left [] (suc k) h = refl
+none_left (line ∷ lines) zero h = absurd (omega (arith, h))
+none_left (line ∷ lines) (suc k) h = none_left lines k (omega (arith, h))
+
+pub tally_end : (t m : Tally) (lines : List Label) (k : ℕ) → with_lines m (drop k lines) ≡ with_lines t lines → length lines ≤ k → m ≡ with_lines t lines
+tally_end t m lines k told none = sym (ap (λ (ls : List Label). with_lines m ls) (none_left lines k none)) ∙ told
+
+-- What is counted of lines, one behind the other.
+pub tally_more : (t : Tally) (before more : List Label) → with_lines t (before ++ more) ≡ with_lines (with_lines t before) more
+tally_more t [] more = refl
+tally_more t (line ∷ before) more = tally_more (with_line t line) before more
+
+pub tally_last : {E : Type 0} (t m u : Tally) (lines : List Label) (last : LastLine) (r : Result (Unit {0}) E) → m ≡ with_lines t lines → OnOk r (u ≡ with_line m last.line)
+    → OnOk r (u ≡ with_lines t (with_last lines (Some last)))
+tally_last t m u lines last (Ok done) told one = one ∙ ap (λ (n : Tally). with_line n last.line) told ∙ sym (tally_more t lines (last.line ∷ []))
+tally_last t m u lines last (Err e) told one = tt
+
 -- Causes, one behind the other.
 pub cause_then : {T U E : Type 0} (a b c : ℕ) (x : T) (r : Result U (MemoryOr E)) → (let s : Result T (MemoryOr E) = Ok x in HasPutCause a b s) → HasPutCause b c r → HasPutCause a c r
 cause_then {T} {U} {E} a b c x r h k = subst (λ (n : ℕ). HasPutCause n c r) h.told k
@@ -212,11 +245,11 @@ module _ (R : Program → Passing → Held → Done Flow → Type 0) (p : Progra
   next_lost_trap why new piles m e = (m.0, m.1, subst IsLost (sym m.2) (none_acts why (acting_of (held new)) e))
 
   -- A step, with its lines.
-  pub plays_none : (taken : Option (List ℕ)) (kept : List ℕ) (b c : Point) (e : RunFault) (so_far : Option (List ℕ))
-      → (let r : Result (Option LastLine) RunFault = Err e in StepComes R p a r b) → (let r : Result (Option RunEnd) RunFault = Err e in Plays R p a (put_so_far taken kept) r c so_far taken)
-  plays_none taken kept b c fault.Write so_far h = absurd h
-  plays_none taken kept b c fault.Memory so_far h = ([], inl refl, took_more taken (put_so_far taken kept) [] (took_so_far taken kept))
-  plays_none taken kept b c fault.Beyond so_far h = (h, took_so_far taken kept)
+  pub plays_none : (taken : Option (List ℕ)) (kept : List ℕ) (t u : Tally) (b c : Point) (e : RunFault) (so_far : Option (List ℕ))
+      → (let r : Result (Option LastLine) RunFault = Err e in StepComes R p a r b) → (let r : Result (Option RunEnd) RunFault = Err e in Plays R p a (put_so_far taken kept) t r c so_far taken u)
+  plays_none taken kept t u b c fault.Write so_far h = absurd h
+  plays_none taken kept t u b c fault.Memory so_far h = ([], inl refl, took_more taken (put_so_far taken kept) [] (took_so_far taken kept))
+  plays_none taken kept t u b c fault.Beyond so_far h = (h, took_so_far taken kept)
 
   pub none_caused : (n : ℕ) (b : Point) (e : RunFault) → (let r : Result (Option LastLine) RunFault = Err e in StepComes R p a r b)
       → (let r : Result (Option RunEnd) RunFault = Err e in HasRunCause n n r)
@@ -230,38 +263,38 @@ module _ (R : Program → Passing → Held → Done Flow → Type 0) (p : Progra
   told_stops before lines (Some last) b e mid taken g is t =
       (with_last lines (Some last), inr (Some last, b, g, ap (λ (ls : List Label). with_last ls (Some last)) is), t)
 
-  put_stops : {E : Type 0} (before : Option (List ℕ)) (e : MemoryOr E) (c : Point) (so_far taken : Option (List ℕ)) → StepStops R p a before taken
-      → (let r : Result (Option RunEnd) RunFault = Err (put_fault e) in Plays R p a before r c so_far taken)
-  put_stops before or.Memory c so_far taken h = h
-  put_stops before (or.Fault f) c so_far taken h = h
+  put_stops : {E : Type 0} (before : Option (List ℕ)) (t u : Tally) (e : MemoryOr E) (c : Point) (so_far taken : Option (List ℕ)) → StepStops R p a before taken
+      → (let r : Result (Option RunEnd) RunFault = Err (put_fault e) in Plays R p a before t r c so_far taken u)
+  put_stops before t u or.Memory c so_far taken h = h
+  put_stops before t u (or.Fault f) c so_far taken h = h
 
-  pub plays_end : {E : Type 0} (before : Option (List ℕ)) (lines : List Label) (last : Option LastLine) (b c : Point) (e : MemoryOr E) (x : RunFault) (mid so_far taken : Option (List ℕ))
+  pub plays_end : {E : Type 0} (before : Option (List ℕ)) (lines : List Label) (last : Option LastLine) (b c : Point) (e : MemoryOr E) (x : RunFault) (t u : Tally) (mid so_far taken : Option (List ℕ))
       → StepGives R p a last b → lines ≡ b.held.labels → (let r : Result (Unit {0}) (MemoryOr E) = Err e in TellsAll before lines last r mid taken) → x ≡ put_fault e
-      → (let r : Result (Option RunEnd) RunFault = Err x in Plays R p a before r c so_far taken)
-  plays_end before lines last b c e x mid so_far taken g is t same =
-      subst (λ (y : RunFault). let r : Result (Option RunEnd) RunFault = Err y in Plays R p a before r c so_far taken) (sym same)
-      (put_stops before e c so_far taken (told_stops before lines last b e mid taken g is t))
+      → (let r : Result (Option RunEnd) RunFault = Err x in Plays R p a before t r c so_far taken u)
+  plays_end before lines last b c e x t u mid so_far taken g is told same =
+      subst (λ (y : RunFault). let r : Result (Option RunEnd) RunFault = Err y in Plays R p a before t r c so_far taken u) (sym same)
+      (put_stops before t u e c so_far taken (told_stops before lines last b e mid taken g is told))
 
-  pub plays_ok : (E : Type 0) (before : Option (List ℕ)) (lines : List Label) (last : Option LastLine) (b c : Point) (o : Option RunEnd) (so_far taken : Option (List ℕ)) → StepGives R p a last b
-      → lines ≡ b.held.labels → c ≡ handed_on b → o ≡ option_map (λ (l : LastLine). l.end) last
+  pub plays_ok : (E : Type 0) (before : Option (List ℕ)) (lines : List Label) (last : Option LastLine) (b c : Point) (o : Option RunEnd) (t u : Tally) (so_far taken : Option (List ℕ)) → StepGives R p a last b
+      → lines ≡ b.held.labels → u ≡ with_lines t (with_last lines last) → c ≡ handed_on b → o ≡ option_map (λ (l : LastLine). l.end) last
       → (let r : Result (Unit {0}) (MemoryOr E) = Ok tt in TellsAll before lines last r so_far taken)
-      → (let r : Result (Option RunEnd) RunFault = Ok o in Plays R p a before r c so_far taken)
-  plays_ok E before lines None b c o so_far taken g e same is t =
-      subst (λ (x : Option RunEnd). let r : Result (Option RunEnd) RunFault = Ok x in Plays R p a before r c so_far taken) (sym is) (lines, (b, g, e, same), t)
-  plays_ok E before lines (Some last) b c o so_far taken g e same is t =
-      subst (λ (x : Option RunEnd). let r : Result (Option RunEnd) RunFault = Ok x in Plays R p a before r c so_far taken) (sym is)
-      (with_last lines (Some last), (last, b, g, refl, ap (λ (ls : List Label). with_last ls (Some last)) e, ap (λ (q : Point). q.held) same), t)
+      → (let r : Result (Option RunEnd) RunFault = Ok o in Plays R p a before t r c so_far taken u)
+  plays_ok E before lines None b c o t u so_far taken g e count same is told =
+      subst (λ (x : Option RunEnd). let r : Result (Option RunEnd) RunFault = Ok x in Plays R p a before t r c so_far taken u) (sym is) (lines, (b, g, e, same), told, count)
+  plays_ok E before lines (Some last) b c o t u so_far taken g e count same is told =
+      subst (λ (x : Option RunEnd). let r : Result (Option RunEnd) RunFault = Ok x in Plays R p a before t r c so_far taken u) (sym is)
+      (with_last lines (Some last), (last, b, g, refl, ap (λ (ls : List Label). with_last ls (Some last)) e, ap (λ (q : Point). q.held) same), told, count)
 
   -- Steps behind steps.
   pub reached_none : Reached R p a [] a
   reached_none = record { count = zero; steps = (refl, refl) }
 
   -- So many steps have led to a world, and their lines have gone out.
-  abbrev pub At : ℕ → Option (List ℕ) → Option (List ℕ) → Point → Type 0
-  At count start so_far b = (lines : List Label) × GoOn R p count a lines b × (so_far ≡ grown start (trace_text lines))
+  abbrev pub At : ℕ → Option (List ℕ) → Tally → Option (List ℕ) → Tally → Point → Type 0
+  At count start t so_far u b = (lines : List Label) × GoOn R p count a lines b × (so_far ≡ grown start (trace_text lines)) × (u ≡ with_lines t lines)
 
-  pub on_first : (start : Option (List ℕ)) → At 0 start start a
-  on_first start = ([], (refl, refl), sym (grown_none start))
+  pub on_first : (start : Option (List ℕ)) (t : Tally) → At 0 start t start t a
+  on_first start t = ([], (refl, refl), sym (grown_none start), refl)
 
   reached_by : (count : ℕ) (lines : List Label) (b : Point) → GoOn R p count a lines b → Reached R p a lines b
   reached_by count lines b h = record { count = count; steps = h }
@@ -271,63 +304,68 @@ module _ (R : Program → Passing → Held → Done Flow → Type 0) (p : Progra
       let one : suc count ≡ count + 1 = omega arith in
       subst (λ (n : ℕ). GoOn R p n a (before ++ more) c) one (b, before, more, h, g, refl)
 
-  pub on_more : (count : ℕ) (start mid so_far taken : Option (List ℕ)) (b c : Point) (o : Option RunEnd) → At count start mid b → o ≡ None
-      → (let r : Result (Option RunEnd) RunFault = Ok o in Plays R p b mid r c so_far taken) → At (count + 1) start so_far c
-  on_more count start mid so_far taken b c o at is t =
-      let u : (let r : Result (Option RunEnd) RunFault = Ok None in Plays R p b mid r c so_far taken)
-      = subst (λ (x : Option RunEnd). let r : Result (Option RunEnd) RunFault = Ok x in Plays R p b mid r c so_far taken) is t in
-      (at.0 ++ u.0, one_more count at.0 u.0 b c at.1 u.1, u.2 ∙ ap (λ (s : Option (List ℕ)). grown s (trace_text u.0)) at.2 ∙ text_more start at.0 u.0)
-
-  pub on_ends : (count : ℕ) (start mid so_far taken : Option (List ℕ)) (b c : Point) (end : RunEnd) (o : Option RunEnd) → At count start mid b → o ≡ Some end
-      → (let r : Result (Option RunEnd) RunFault = Ok o in Plays R p b mid r c so_far taken) → (let r : Result RunEnd RunFault = Ok end in PlaysOn R p a start r c taken)
-  on_ends count start mid so_far taken b c end o at is t =
-      let u : (let r : Result (Option RunEnd) RunFault = Ok (Some end) in Plays R p b mid r c so_far taken)
-      = subst (λ (x : Option RunEnd). let r : Result (Option RunEnd) RunFault = Ok x in Plays R p b mid r c so_far taken) is t in (
-        at.0 ++ u.0,
-        record { before = at.0; last = b; more = u.0; goes = reached_by count at.0 b at.1; ends = u.1; lines_are = refl },
-        u.2 ∙ ap (λ (s : Option (List ℕ)). grown s (trace_text u.0)) at.2 ∙ text_more start at.0 u.0,
+  pub on_more : (count : ℕ) (start mid so_far taken : Option (List ℕ)) (t m u : Tally) (b c : Point) (o : Option RunEnd) → At count start t mid m b → o ≡ None
+      → (let r : Result (Option RunEnd) RunFault = Ok o in Plays R p b mid m r c so_far taken u) → At (count + 1) start t so_far u c
+  on_more count start mid so_far taken t m u b c o at is told =
+      let x : (let r : Result (Option RunEnd) RunFault = Ok None in Plays R p b mid m r c so_far taken u)
+      = subst (λ (x : Option RunEnd). let r : Result (Option RunEnd) RunFault = Ok x in Plays R p b mid m r c so_far taken u) is told in (
+        at.0 ++ x.0,
+        one_more count at.0 x.0 b c at.1 x.1,
+        x.2 ∙ ap (λ (s : Option (List ℕ)). grown s (trace_text x.0)) at.2 ∙ text_more start at.0 x.0,
+        x.3 ∙ ap (λ (n : Tally). with_lines n x.0) at.3 ∙ sym (tally_more t at.0 x.0),
       )
 
-  stops_on : (count : ℕ) (start mid taken : Option (List ℕ)) (b : Point) → At count start mid b → StepStops R p b mid taken → StopsOn R p a start taken
-  stops_on count start mid taken b at (lines, inl none, t) =
-      (at.0, inl (b, reached_by count at.0 b at.1), subst (Took taken) (ap (λ (ls : List Label). grown mid (trace_text ls)) none ∙ grown_none mid ∙ at.2) t)
-  stops_on count start mid taken b at (lines, inr told, t) =
-      (at.0 ++ lines, inr (b, at.0, lines, reached_by count at.0 b at.1, told, refl), subst (Took taken) (ap (λ (s : Option (List ℕ)). grown s (trace_text lines)) at.2 ∙ text_more start at.0 lines) t)
+  pub on_ends : (count : ℕ) (start mid so_far taken : Option (List ℕ)) (t m u : Tally) (b c : Point) (end : RunEnd) (o : Option RunEnd) → At count start t mid m b → o ≡ Some end
+      → (let r : Result (Option RunEnd) RunFault = Ok o in Plays R p b mid m r c so_far taken u) → (let r : Result RunEnd RunFault = Ok end in PlaysOn R p a start t r c taken u)
+  on_ends count start mid so_far taken t m u b c end o at is told =
+      let x : (let r : Result (Option RunEnd) RunFault = Ok (Some end) in Plays R p b mid m r c so_far taken u)
+      = subst (λ (x : Option RunEnd). let r : Result (Option RunEnd) RunFault = Ok x in Plays R p b mid m r c so_far taken u) is told in (
+        at.0 ++ x.0,
+        record { before = at.0; last = b; more = x.0; goes = reached_by count at.0 b at.1; ends = x.1; lines_are = refl },
+        x.2 ∙ ap (λ (s : Option (List ℕ)). grown s (trace_text x.0)) at.2 ∙ text_more start at.0 x.0,
+        x.3 ∙ ap (λ (n : Tally). with_lines n x.0) at.3 ∙ sym (tally_more t at.0 x.0),
+      )
 
-  pub on_fails : (count : ℕ) (start mid so_far taken : Option (List ℕ)) (b c : Point) (x : RunFault) → At count start mid b
-      → (let r : Result (Option RunEnd) RunFault = Err x in Plays R p b mid r c so_far taken) → (let r : Result RunEnd RunFault = Err x in PlaysOn R p a start r c taken)
-  on_fails count start mid so_far taken b c fault.Write at h = stops_on count start mid taken b at h
-  on_fails count start mid so_far taken b c fault.Memory at h = stops_on count start mid taken b at h
-  on_fails count start mid so_far taken b c fault.Beyond at h =
+  stops_on : (count : ℕ) (start mid taken : Option (List ℕ)) (t m : Tally) (b : Point) → At count start t mid m b → StepStops R p b mid taken → StopsOn R p a start taken
+  stops_on count start mid taken t m b at (lines, inl none, took) =
+      (at.0, inl (b, reached_by count at.0 b at.1), subst (Took taken) (ap (λ (ls : List Label). grown mid (trace_text ls)) none ∙ grown_none mid ∙ at.2) took)
+  stops_on count start mid taken t m b at (lines, inr told, took) =
+      (at.0 ++ lines, inr (b, at.0, lines, reached_by count at.0 b at.1, told, refl), subst (Took taken) (ap (λ (s : Option (List ℕ)). grown s (trace_text lines)) at.2 ∙ text_more start at.0 lines) took)
+
+  pub on_fails : (count : ℕ) (start mid so_far taken : Option (List ℕ)) (t m u : Tally) (b c : Point) (x : RunFault) → At count start t mid m b
+      → (let r : Result (Option RunEnd) RunFault = Err x in Plays R p b mid m r c so_far taken u) → (let r : Result RunEnd RunFault = Err x in PlaysOn R p a start t r c taken u)
+  on_fails count start mid so_far taken t m u b c fault.Write at h = stops_on count start mid taken t m b at h
+  on_fails count start mid so_far taken t m u b c fault.Memory at h = stops_on count start mid taken t m b at h
+  on_fails count start mid so_far taken t m u b c fault.Beyond at h =
       (at.0, record { count = count; last = b; steps = at.1; behind = inl h.0 }, subst (Took taken) at.2 h.1)
 
-  pub on_out : (count : ℕ) (start taken : Option (List ℕ)) (kept : List ℕ) (b : Point) → At count start (put_so_far taken kept) b → count ≡ most_steps
-      → (let r : Result RunEnd RunFault = Err fault.Beyond in PlaysOn R p a start r b taken)
-  on_out count start taken kept b at e =
+  pub on_out : (count : ℕ) (start taken : Option (List ℕ)) (t m u : Tally) (kept : List ℕ) (b : Point) → At count start t (put_so_far taken kept) m b → count ≡ most_steps
+      → (let r : Result RunEnd RunFault = Err fault.Beyond in PlaysOn R p a start t r b taken u)
+  on_out count start taken t m u kept b at e =
       (at.0, record { count = count; last = b; steps = at.1; behind = inr e }, subst (Took taken) at.2 (took_so_far taken kept))
 
   -- A run that came to its end, of which no dump is made; and one that did not begin.
-  pub no_dump : (start taken : Option (List ℕ)) (b : Point) (end : RunEnd) (dumps : Bool)
-      → (let r : Result RunEnd RunFault = Ok end in PlaysOn R p a start r b taken) → (let r : Result Ran RunFault = Err fault.Memory in WorldRuns R p a dumps start r taken)
-  no_dump start taken b end dumps h =
+  pub no_dump : (start taken : Option (List ℕ)) (t u : Tally) (b : Point) (end : RunEnd) (dumps : Bool)
+      → (let r : Result RunEnd RunFault = Ok end in PlaysOn R p a start t r b taken u) → (let r : Result Ran RunFault = Err fault.Memory in WorldRuns R p a dumps start t r taken u)
+  no_dump start taken t u b end dumps h =
       (h.0, inr (h.1.last, h.1.before, h.1.more, h.1.goes, (Some h.1.ends.0, h.1.ends.1, h.1.ends.2, h.1.ends.4), h.1.lines_are), took_all taken (grown start (trace_text h.0)) h.2)
 
-  pub world_ends : (start taken : Option (List ℕ)) (b : Point) (dumps : Bool) (e : RunFault) → (let r : Result RunEnd RunFault = Err e in PlaysOn R p a start r b taken)
-      → (let r : Result Ran RunFault = Err e in WorldRuns R p a dumps start r taken)
-  world_ends start taken b dumps fault.Write h = h
-  world_ends start taken b dumps fault.Memory h = h
-  world_ends start taken b dumps fault.Beyond h = h
+  pub world_ends : (start taken : Option (List ℕ)) (t u : Tally) (b : Point) (dumps : Bool) (e : RunFault) → (let r : Result RunEnd RunFault = Err e in PlaysOn R p a start t r b taken u)
+      → (let r : Result Ran RunFault = Err e in WorldRuns R p a dumps start t r taken u)
+  world_ends start taken t u b dumps fault.Write h = h
+  world_ends start taken t u b dumps fault.Memory h = h
+  world_ends start taken t u b dumps fault.Beyond h = h
 
-  pub no_world : (taken : Option (List ℕ)) (kept : List ℕ) (dumps : Bool) → (let r : Result Ran RunFault = Err fault.Memory in ScriptRuns R p a dumps taken kept r taken)
-  no_world taken kept dumps = ([], inl (a, reached_none), (0, sym (grown_none taken)))
+  pub no_world : (taken : Option (List ℕ)) (t u : Tally) (kept : List ℕ) (dumps : Bool) → (let r : Result Ran RunFault = Err fault.Memory in ScriptRuns R p a dumps taken kept t r taken u)
+  no_world taken t u kept dumps = ([], inl (a, reached_none), (0, sym (grown_none taken)))
 
   -- What went out is told behind what the sink had taken.
-  pub script_runs : (dumps : Bool) (start taken : Option (List ℕ)) (kept : List ℕ) (r : Result Ran RunFault) → WorldRuns R p a dumps (put_so_far start kept) r taken → Grew start taken
-      → ScriptRuns R p a dumps start kept r taken
-  script_runs dumps start taken kept (Ok ran) h g = (h.0, h.1, h.2, h.3 ∙ grown_twice start kept (trace_text h.0), h.4)
-  script_runs dumps start taken kept (Err fault.Write) h g = (h.0, h.1, front_of start taken kept (trace_text h.0) h.2 g)
-  script_runs dumps start taken kept (Err fault.Memory) h g = (h.0, h.1, front_of start taken kept (trace_text h.0) h.2 g)
-  script_runs dumps start taken kept (Err fault.Beyond) h g = (h.0, h.1, front_of start taken kept (trace_text h.0) h.2 g)
+  pub script_runs : (dumps : Bool) (start taken : Option (List ℕ)) (t u : Tally) (kept : List ℕ) (r : Result Ran RunFault) → WorldRuns R p a dumps (put_so_far start kept) t r taken u → Grew start taken
+      → ScriptRuns R p a dumps start kept t r taken u
+  script_runs dumps start taken t u kept (Ok ran) h g = (h.0, h.1, h.2, h.3 ∙ grown_twice start kept (trace_text h.0), h.4, h.5)
+  script_runs dumps start taken t u kept (Err fault.Write) h g = (h.0, h.1, front_of start taken kept (trace_text h.0) h.2 g)
+  script_runs dumps start taken t u kept (Err fault.Memory) h g = (h.0, h.1, front_of start taken kept (trace_text h.0) h.2 g)
+  script_runs dumps start taken t u kept (Err fault.Beyond) h g = (h.0, h.1, front_of start taken kept (trace_text h.0) h.2 g)
 
 -- Causes of what ends a step are those of what was put.
 pub put_caused : {E : Type 0} (before now : ℕ) (e : MemoryOr E) (x : RunFault) → (let r : Result (Unit {0}) (MemoryOr E) = Err e in HasPutCause before now r) → x ≡ put_fault e

@@ -2,7 +2,7 @@
 -- trap while no task acts, or behind as many steps as are made at most. That no run of a linked component comes to one of the first two is not said.
 use Rattle.std.specs.Prelude.{◌≡◌, ◌⊎◌, ℕ, List, None}
 use Rattle.programs.specs.declared.program.Program.{Program}
-use Rattle.trace_show.specs.declared.label.Label.{Label}
+use Rattle.trace_labels.specs.declared.label.Label.{Label}
 use Rattle.world_parts.specs.declared.parts.Flow.{Flow}
 use Rattle.world_parts.specs.Held.{Held, Done, Gives, Traps, Spent, Stuck}
 use Rattle.world_stacks.specs.Views.{PileView}

@@ -7,8 +7,9 @@ use Rattle.ca_base.specs.declared.memory.MemoryOr.TheVariants as or
 use Rattle.ca_io.specs.Bytes.{grown, TookFront}
 use Rattle.ca_io.specs.Causes.{Rose}
 use Rattle.programs.specs.declared.program.Program.{Program}
-use Rattle.trace_show.specs.declared.label.Label.{Label}
+use Rattle.trace_labels.specs.declared.label.Label.{Label}
 use Rattle.trace_show.specs.LabelText.{trace_text}
+use Rattle.trace_show.specs.Tally.{Tally, with_lines}
 use Rattle.world_parts.specs.declared.parts.Flow.{Flow}
 use Rattle.world_parts.specs.Held.{Held, Done}
 use Rattle.world_dumps.specs.Tables.{dump_of}
@@ -57,16 +58,16 @@ StepComes may_pass p a (Err fault.Beyond) b = StepIsLost may_pass p a
 abbrev pub StepStops : (Program → Passing → Held → Done Flow → Type 0) → Program → Point → Option (List ℕ) → Option (List ℕ) → Type 0
 StepStops may_pass p a before taken = (lines : List Label) × ((lines ≡ []) ⊎ StepTells may_pass p a lines) × Took taken (grown before (trace_text lines))
 
--- What a step comes to, with its lines: the text so far, what the sink took, and the world behind it.
-abbrev pub Plays : (Program → Passing → Held → Done Flow → Type 0) → Program → Point → Option (List ℕ) → Result (Option RunEnd) RunFault → Point → Option (List ℕ)
-    → Option (List ℕ) → Type 0
-Plays may_pass p a before (Ok None) c so_far taken =
-    (lines : List Label) × Goes may_pass p a lines c × (so_far ≡ grown before (trace_text lines))
-Plays may_pass p a before (Ok (Some end)) c so_far taken =
-    (lines : List Label) × EndsBy may_pass p a end lines c.held × (taken ≡ grown before (trace_text lines))
-Plays may_pass p a before (Err fault.Write) c so_far taken = StepStops may_pass p a before taken
-Plays may_pass p a before (Err fault.Memory) c so_far taken = StepStops may_pass p a before taken
-Plays may_pass p a before (Err fault.Beyond) c so_far taken = StepIsLost may_pass p a × Took taken before
+-- What a step comes to, with its lines: the text so far, what the sink took, what is counted of the lines, and the world behind it.
+abbrev pub Plays : (Program → Passing → Held → Done Flow → Type 0) → Program → Point → Option (List ℕ) → Tally → Result (Option RunEnd) RunFault → Point → Option (List ℕ)
+    → Option (List ℕ) → Tally → Type 0
+Plays may_pass p a before t (Ok None) c so_far taken u =
+    (lines : List Label) × Goes may_pass p a lines c × (so_far ≡ grown before (trace_text lines)) × (u ≡ with_lines t lines)
+Plays may_pass p a before t (Ok (Some end)) c so_far taken u =
+    (lines : List Label) × EndsBy may_pass p a end lines c.held × (taken ≡ grown before (trace_text lines)) × (u ≡ with_lines t lines)
+Plays may_pass p a before t (Err fault.Write) c so_far taken u = StepStops may_pass p a before taken
+Plays may_pass p a before t (Err fault.Memory) c so_far taken u = StepStops may_pass p a before taken
+Plays may_pass p a before t (Err fault.Beyond) c so_far taken u = StepIsLost may_pass p a × Took taken before
 
 -- A run stopped, at a write that failed or for want of memory; or it went beyond what is run. The sink took some front of the text of its lines.
 abbrev pub StopsOn : (Program → Passing → Held → Done Flow → Type 0) → Program → Point → Option (List ℕ) → Option (List ℕ) → Type 0
@@ -76,32 +77,33 @@ abbrev pub IsLostOn : (Program → Passing → Held → Done Flow → Type 0) �
 IsLostOn may_pass p a before taken = (lines : List Label) × IsBeyond may_pass p a lines × Took taken (grown before (trace_text lines))
 
 -- What a run from a world on comes to.
-abbrev pub PlaysOn : (Program → Passing → Held → Done Flow → Type 0) → Program → Point → Option (List ℕ) → Result RunEnd RunFault → Point → Option (List ℕ) → Type 0
-PlaysOn may_pass p a before (Ok end) b taken =
-    (lines : List Label) × IsRun may_pass p a end lines b.held × (taken ≡ grown before (trace_text lines))
-PlaysOn may_pass p a before (Err fault.Write) b taken = StopsOn may_pass p a before taken
-PlaysOn may_pass p a before (Err fault.Memory) b taken = StopsOn may_pass p a before taken
-PlaysOn may_pass p a before (Err fault.Beyond) b taken = IsLostOn may_pass p a before taken
+abbrev pub PlaysOn : (Program → Passing → Held → Done Flow → Type 0) → Program → Point → Option (List ℕ) → Tally → Result RunEnd RunFault → Point → Option (List ℕ) → Tally → Type 0
+PlaysOn may_pass p a before t (Ok end) b taken u =
+    (lines : List Label) × IsRun may_pass p a end lines b.held × (taken ≡ grown before (trace_text lines)) × (u ≡ with_lines t lines)
+PlaysOn may_pass p a before t (Err fault.Write) b taken u = StopsOn may_pass p a before taken
+PlaysOn may_pass p a before t (Err fault.Memory) b taken u = StopsOn may_pass p a before taken
+PlaysOn may_pass p a before t (Err fault.Beyond) b taken u = IsLostOn may_pass p a before taken
 
 -- The same with the text of what it left, where that is asked for.
 abbrev pub dump_if : Bool → Held → Option (List ℕ)
 dump_if dumps h = if dumps then Some (dump_of h) else None
 
-abbrev pub WorldRuns : (Program → Passing → Held → Done Flow → Type 0) → Program → Point → Bool → Option (List ℕ) → Result Ran RunFault → Option (List ℕ) → Type 0
-WorldRuns may_pass p a dumps before (Ok ran) taken =
-    (lines : List Label) × (h : Held) × IsRun may_pass p a ran.end lines h × (taken ≡ grown before (trace_text lines)) × (ran.dump ≡ dump_if dumps h)
-WorldRuns may_pass p a dumps before (Err fault.Write) taken = StopsOn may_pass p a before taken
-WorldRuns may_pass p a dumps before (Err fault.Memory) taken = StopsOn may_pass p a before taken
-WorldRuns may_pass p a dumps before (Err fault.Beyond) taken = IsLostOn may_pass p a before taken
+abbrev pub WorldRuns : (Program → Passing → Held → Done Flow → Type 0) → Program → Point → Bool → Option (List ℕ) → Tally → Result Ran RunFault → Option (List ℕ) → Tally → Type 0
+WorldRuns may_pass p a dumps before t (Ok ran) taken u =
+    (lines : List Label) × (h : Held) × IsRun may_pass p a ran.end lines h × (taken ≡ grown before (trace_text lines)) × (ran.dump ≡ dump_if dumps h) × (u ≡ with_lines t lines)
+WorldRuns may_pass p a dumps before t (Err fault.Write) taken u = StopsOn may_pass p a before taken
+WorldRuns may_pass p a dumps before t (Err fault.Memory) taken u = StopsOn may_pass p a before taken
+WorldRuns may_pass p a dumps before t (Err fault.Beyond) taken u = IsLostOn may_pass p a before taken
 
--- What the run of a script comes to, where the sink had taken `start` and this was kept back: all of it is written, and the text of what it left is
--- there, where that is asked for. Where it stopped, or went beyond what is run, the sink took some front of the text of its lines, and nothing else.
-abbrev pub ScriptRuns : (Program → Passing → Held → Done Flow → Type 0) → Program → Point → Bool → Option (List ℕ) → List ℕ → Result Ran RunFault → Option (List ℕ) → Type 0
-ScriptRuns may_pass p a dumps start kept (Ok ran) taken =
-    (lines : List Label) × (h : Held) × IsRun may_pass p a ran.end lines h × (taken ≡ grown start (kept ++ trace_text lines)) × (ran.dump ≡ dump_if dumps h)
-ScriptRuns may_pass p a dumps start kept (Err fault.Write) taken = (lines : List Label) × SoFarTells may_pass p a lines × TookFront start taken (kept ++ trace_text lines)
-ScriptRuns may_pass p a dumps start kept (Err fault.Memory) taken = (lines : List Label) × SoFarTells may_pass p a lines × TookFront start taken (kept ++ trace_text lines)
-ScriptRuns may_pass p a dumps start kept (Err fault.Beyond) taken = (lines : List Label) × IsBeyond may_pass p a lines × TookFront start taken (kept ++ trace_text lines)
+-- What the run of a script comes to, where the sink had taken `start`, this was kept back, and `t` was counted of the lines before: all of it is
+-- written, its lines are counted, and the text of what it left is there, where that is asked for. Where it stopped, or went beyond what is run, the sink took some front of the text of its lines, and nothing else.
+abbrev pub ScriptRuns : (Program → Passing → Held → Done Flow → Type 0) → Program → Point → Bool → Option (List ℕ) → List ℕ → Tally → Result Ran RunFault → Option (List ℕ) → Tally
+    → Type 0
+ScriptRuns may_pass p a dumps start kept t (Ok ran) taken u =
+    (lines : List Label) × (h : Held) × IsRun may_pass p a ran.end lines h × (taken ≡ grown start (kept ++ trace_text lines)) × (ran.dump ≡ dump_if dumps h) × (u ≡ with_lines t lines)
+ScriptRuns may_pass p a dumps start kept t (Err fault.Write) taken u = (lines : List Label) × SoFarTells may_pass p a lines × TookFront start taken (kept ++ trace_text lines)
+ScriptRuns may_pass p a dumps start kept t (Err fault.Memory) taken u = (lines : List Label) × SoFarTells may_pass p a lines × TookFront start taken (kept ++ trace_text lines)
+ScriptRuns may_pass p a dumps start kept t (Err fault.Beyond) taken u = (lines : List Label) × IsBeyond may_pass p a lines × TookFront start taken (kept ++ trace_text lines)
 
 -- The count of the sink's faults never falls; it rose where a write failed, and is as before with every other answer.
 abbrev pub RunTold : {T : Type 0} → ℕ → ℕ → Result T RunFault → Type 0

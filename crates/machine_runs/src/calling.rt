@@ -10,7 +10,7 @@ use graph_views::canon_at;
 use replies::{begin, may_leave, reply};
 use std::alloc::Global;
 use task_table::Words;
-use trace_show::TrapName;
+use trace_labels::TrapName;
 use world_parts::{Flow, Part, Parts, Stop};
 use world_stacks::exempt_answer;
 

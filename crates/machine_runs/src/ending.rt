@@ -8,7 +8,7 @@ ghost use Rattle.machine_runs.specs.Worlds.{free_line, trap_line, fuel_line};
 use ca_base::{Memory, Seq};
 use std::alloc::Global;
 use std::collections::BTreeSet;
-use trace_show::{Label, TrapName};
+use trace_labels::{Label, TrapName};
 use world_parts::Parts;
 
 /// How a run ends.

@@ -7,9 +7,10 @@ ghost use Rattle.laid_types.specs.SameTypes.{AreDistinct};
 ghost use Rattle.ca_io.specs.Bytes.{grown};
 ghost use Rattle.trace_show.specs.Trace.{put_so_far, HasPutCause};
 ghost use Rattle.trace_show.specs.LabelText.{label_text, trace_text};
+ghost use Rattle.trace_show.specs.Tally.{tally_of, with_line, with_lines};
 ghost use Rattle.world_parts.specs.Held.{held};
 ghost use Rattle.machine_runs.specs.Stepping.{CanStep};
-ghost use Rattle.machine_runs.specs.Worlds.{point_of, first_point, StepsOn};
+ghost use Rattle.machine_runs.specs.Worlds.{point_of, first_point, with_last, StepsOn};
 ghost use Rattle.machine_runs.specs.Playing.{dump_if, Took, Grew, Puts, TellsAll, StepComes, Plays, PlaysOn, WorldRuns, ScriptRuns, HasRunCause};
 
 use crate::ending::{LastLine, RunEnd, free_line, fuel_line, trap_line};
@@ -20,7 +21,8 @@ use ca_base::{Bytes, Memory, MemoryOr};
 use ca_io::{Failed, Sink};
 use programs::Program;
 use std::alloc::Global;
-use trace_show::{Label, Trace};
+use trace_labels::Label;
+use trace_show::Trace;
 use value_parts::PassesValues;
 use world_dumps::dump_text;
 use world_parts::{Parts, Stop};
@@ -43,6 +45,7 @@ fn put_lines<K: Sink>(
 ) -> Result<(), MemoryOr<Failed>>
     ensures same_sink { trace.new.sink.ghost_name ≡ trace.old.sink.ghost_name }
     ensures puts { Puts (put_so_far (K.taken trace.old.sink.now) trace.old.kept.now.items) lines.now result (put_so_far (K.taken trace.new.sink.now) trace.new.kept.now.items) (K.taken trace.new.sink.now) }
+    ensures tally { OnOk result (tally_of trace.new.elements trace.new.sum trace.new.last.now.items ≡ with_lines (tally_of trace.old.elements trace.old.sum trace.old.last.now.items) lines.now) }
     ensures grows { Grew (K.taken trace.old.sink.now) (K.taken trace.new.sink.now) }
     ensures cause { HasPutCause (K.faults trace.old.sink.now) (K.faults trace.new.sink.now) result }
 {
@@ -90,7 +93,7 @@ fn next<V: PassesValues>(
 }
 
 /// Puts lines, and the last line of a run, if it is there. Behind that one all is written.
-#[tactic(auto, using(crate::proofs::Played::told_end, crate::proofs::Played::told_last, crate::proofs::Played::cause_then, crate::proofs::Played::grew_then))]
+#[tactic(auto, using(crate::proofs::Played::told_end, crate::proofs::Played::told_last, crate::proofs::Played::tally_last, crate::proofs::Played::cause_then, crate::proofs::Played::grew_then))]
 fn tell<K: Sink>(
     alloc: Global,
     lines: &[Label],
@@ -99,6 +102,7 @@ fn tell<K: Sink>(
 ) -> Result<(), MemoryOr<Failed>>
     ensures same_sink { trace.new.sink.ghost_name ≡ trace.old.sink.ghost_name }
     ensures tells { TellsAll (put_so_far (K.taken trace.old.sink.now) trace.old.kept.now.items) lines.now last.now result (put_so_far (K.taken trace.new.sink.now) trace.new.kept.now.items) (K.taken trace.new.sink.now) }
+    ensures tally { OnOk result (tally_of trace.new.elements trace.new.sum trace.new.last.now.items ≡ with_lines (tally_of trace.old.elements trace.old.sum trace.old.last.now.items) (with_last lines.now last.now)) }
     ensures grows { Grew (K.taken trace.old.sink.now) (K.taken trace.new.sink.now) }
     ensures cause { HasPutCause (K.faults trace.old.sink.now) (K.faults trace.new.sink.now) result }
 {
@@ -118,6 +122,7 @@ fn put_last<K: Sink>(
 ) -> Result<(), MemoryOr<Failed>>
     ensures same_sink { trace.new.sink.ghost_name ≡ trace.old.sink.ghost_name }
     ensures ok { OnOk result (K.taken trace.new.sink.now ≡ grown (put_so_far (K.taken trace.old.sink.now) trace.old.kept.now.items) (label_text line.now)) }
+    ensures tally { OnOk result (tally_of trace.new.elements trace.new.sum trace.new.last.now.items ≡ with_line (tally_of trace.old.elements trace.old.sum trace.old.last.now.items) line.now) }
     ensures failed { OnErr result (Took (K.taken trace.new.sink.now) (grown (put_so_far (K.taken trace.old.sink.now) trace.old.kept.now.items) (label_text line.now))) }
     ensures grows { Grew (K.taken trace.old.sink.now) (K.taken trace.new.sink.now) }
     ensures cause { HasPutCause (K.faults trace.old.sink.now) (K.faults trace.new.sink.now) result }
@@ -140,7 +145,7 @@ fn play<V: PassesValues, K: Sink>(
     requires distinct { AreDistinct program.now.types.now }
     requires can { CanStep world.old.passing world.old.stacks.piles.items (held world.old.parts) }
     ensures same_sink { trace.new.sink.ghost_name ≡ trace.old.sink.ghost_name }
-    ensures plays { Plays V.may_pass program.now (point_of world.old) (put_so_far (K.taken trace.old.sink.now) trace.old.kept.now.items) result (point_of world.new) (put_so_far (K.taken trace.new.sink.now) trace.new.kept.now.items) (K.taken trace.new.sink.now) }
+    ensures plays { Plays V.may_pass program.now (point_of world.old) (put_so_far (K.taken trace.old.sink.now) trace.old.kept.now.items) (tally_of trace.old.elements trace.old.sum trace.old.last.now.items) result (point_of world.new) (put_so_far (K.taken trace.new.sink.now) trace.new.kept.now.items) (K.taken trace.new.sink.now) (tally_of trace.new.elements trace.new.sum trace.new.last.now.items) }
     ensures grows { Grew (K.taken trace.old.sink.now) (K.taken trace.new.sink.now) }
     ensures cause { HasRunCause (K.faults trace.old.sink.now) (K.faults trace.new.sink.now) result }
 {
@@ -177,7 +182,7 @@ fn play_on<V: PassesValues, K: Sink>(
     requires distinct { AreDistinct program.now.types.now }
     requires sound { StepsOn V.may_pass program.now (point_of world.old) }
     ensures same_sink { trace.new.sink.ghost_name ≡ trace.old.sink.ghost_name }
-    ensures plays { PlaysOn V.may_pass program.now (point_of world.old) (put_so_far (K.taken trace.old.sink.now) trace.old.kept.now.items) result (point_of world.new) (K.taken trace.new.sink.now) }
+    ensures plays { PlaysOn V.may_pass program.now (point_of world.old) (put_so_far (K.taken trace.old.sink.now) trace.old.kept.now.items) (tally_of trace.old.elements trace.old.sum trace.old.last.now.items) result (point_of world.new) (K.taken trace.new.sink.now) (tally_of trace.new.elements trace.new.sum trace.new.last.now.items) }
     ensures grows { Grew (K.taken trace.old.sink.now) (K.taken trace.new.sink.now) }
     ensures cause { HasRunCause (K.faults trace.old.sink.now) (K.faults trace.new.sink.now) result }
 {
@@ -214,7 +219,7 @@ fn run_world<V: PassesValues, K: Sink>(
     requires distinct { AreDistinct program.now.types.now }
     requires sound { StepsOn V.may_pass program.now (point_of world.old) }
     ensures same_sink { trace.new.sink.ghost_name ≡ trace.old.sink.ghost_name }
-    ensures runs { WorldRuns V.may_pass program.now (point_of world.old) dumps (put_so_far (K.taken trace.old.sink.now) trace.old.kept.now.items) result (K.taken trace.new.sink.now) }
+    ensures runs { WorldRuns V.may_pass program.now (point_of world.old) dumps (put_so_far (K.taken trace.old.sink.now) trace.old.kept.now.items) (tally_of trace.old.elements trace.old.sum trace.old.last.now.items) result (K.taken trace.new.sink.now) (tally_of trace.new.elements trace.new.sum trace.new.last.now.items) }
     ensures grows { Grew (K.taken trace.old.sink.now) (K.taken trace.new.sink.now) }
     ensures cause { HasRunCause (K.faults trace.old.sink.now) (K.faults trace.new.sink.now) result }
 {
@@ -241,7 +246,7 @@ pub fn run_script<V: PassesValues, K: Sink>(
     requires distinct { AreDistinct program.now.types.now }
     requires sound { StepsOn V.may_pass program.now (first_point program.now.graph.now program.now.script.now) }
     ensures same_sink { trace.new.sink.ghost_name ≡ trace.old.sink.ghost_name }
-    ensures runs { ScriptRuns V.may_pass program.now (first_point program.now.graph.now program.now.script.now) dumps (K.taken trace.old.sink.now) trace.old.kept.now.items result (K.taken trace.new.sink.now) }
+    ensures runs { ScriptRuns V.may_pass program.now (first_point program.now.graph.now program.now.script.now) dumps (K.taken trace.old.sink.now) trace.old.kept.now.items (tally_of trace.old.elements trace.old.sum trace.old.last.now.items) result (K.taken trace.new.sink.now) (tally_of trace.new.elements trace.new.sum trace.new.last.now.items) }
     ensures grows { Grew (K.taken trace.old.sink.now) (K.taken trace.new.sink.now) }
     ensures cause { HasRunCause (K.faults trace.old.sink.now) (K.faults trace.new.sink.now) result }
 {

@@ -15,7 +15,7 @@ use programs::Program;
 use script_reader::Script;
 use std::alloc::Global;
 use std::mem;
-use trace_show::Label;
+use trace_labels::Label;
 use value_parts::{PassesValues, Passing};
 use world_parts::{Part, Parts};
 use world_stacks::Stacks;

@@ -10,8 +10,8 @@ use Rattle.script_reader.specs.Script.{Script, script}
 use Rattle.comp_graph.specs.Graph.{Graph}
 use Rattle.link_spec.specs.Linked.{IsLinked}
 use Rattle.link_spec.specs.Laws.{LinkedOrRefused}
-use Rattle.canonical_machine.specs.Sound.{AreBytes}
-use Rattle.canonical_machine.specs.Ending.{EachRunEnds}
+use Rattle.lowering_laws.specs.Values.{AreBytes}
+use Rattle.synchronous_laws.specs.Ending.{EachRunEnds}
 use Rattle.graph_laws.specs.Laws.{LinkedGraphsAreApart}
 use Rattle.command_words.specs.Words.{Command, Run, Check, Show, component_file}
 use Rattle.wcm.specs.declared.answer.Answer.{Answer}

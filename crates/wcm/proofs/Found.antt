@@ -21,15 +21,15 @@ ok_inj h = cc
 err_inj : {A E : Type 0} {x y : E} → ◌≡◌ {A = Result A E} (Err x) (Err y) → x ≡ y
 err_inj h = cc
 
-matches_once : {W A : Type 0} (g : Grammar W A) (s : Span W) (x y : A) (t u : Span W) → Matches g s x t → Matches g s y u → x ≡ y
+pub matches_once : {W A : Type 0} (g : Grammar W A) (s : Span W) (x y : A) (t u : Span W) → Matches g s x t → Matches g s y u → x ≡ y
 matches_once g s x y t u m n =
     ap (λ p. p.0) (ok_inj (sym (matches_reads g s x t m) ∙ matches_reads g s y u n))
 
-refuses_once : {W A : Type 0} (g : Grammar W A) (s : Span W) (e d : Refusal W) → Refuses g s e → Refuses g s d → e ≡ d
+pub refuses_once : {W A : Type 0} (g : Grammar W A) (s : Span W) (e d : Refusal W) → Refuses g s e → Refuses g s d → e ≡ d
 refuses_once g s e d r q =
     err_inj (sym (refuses_reads g s e r) ∙ refuses_reads g s d q)
 
-not_refused : {W A : Type 0} (g : Grammar W A) (s : Span W) (x : A) (t : Span W) (e : Refusal W) → Matches g s x t → Refuses g s e → ⊥
+pub not_refused : {W A : Type 0} (g : Grammar W A) (s : Span W) (x : A) (t : Span W) (e : Refusal W) → Matches g s x t → Refuses g s e → ⊥
 not_refused g s x t e m r =
     let both : ◌≡◌ {A = Result (_ × Span _) (Refusal _)} (Ok (x, t)) (Err e) = sym (matches_reads g s x t m) ∙ refuses_reads g s e r in
     cc

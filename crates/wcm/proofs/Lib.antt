@@ -2,7 +2,9 @@ pub mod Caused
 pub mod Existing
 pub mod Found
 pub mod Held
+pub mod OnePipe
 pub mod Reading
+pub mod Requests
 pub mod Rows
 pub mod RunsOn
 pub mod Sounds

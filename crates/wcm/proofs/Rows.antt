@@ -5,11 +5,11 @@ use Rattle.comp_tree.specs.declared.items.Component.{Component}
 use Rattle.script_reader.specs.declared.fault.ScriptFault.{ScriptFault}
 use Rattle.script_reader.specs.Script.{Script, script}
 use Rattle.comp_graph.specs.Graph.{Graph}
-use Rattle.trace_show.specs.declared.label.Label.{Label}
-use Rattle.canonical_machine.specs.declared.run_end.RunEnd.{RunEnd}
-use Rattle.canonical_machine.specs.World.{World}
-use Rattle.canonical_machine.specs.Run.{Runs}
-use Rattle.canonical_machine.proofs.Runs.{one_run}
+use Rattle.trace_labels.specs.declared.label.Label.{Label}
+use Rattle.world.specs.declared.run_end.RunEnd.{RunEnd}
+use Rattle.world.specs.World.{World}
+use Rattle.world.specs.Run.{Runs}
+use Rattle.synchronous_laws.proofs.Runs.{one_run}
 use Rattle.programs.specs.declared.program.Program.{Program}
 use Rattle.world_parts.specs.Held.{Held}
 use Rattle.value_moves.specs.Passing.{Passes}

@@ -4,7 +4,7 @@ use Rattle.script_reader.specs.Script.{Script}
 use Rattle.comp_graph.specs.Graph.{Graph}
 use Rattle.link_spec.specs.Laws.{ModulesStand}
 use Rattle.graph_laws.specs.Laws.{ReadModulesAreTyped}
-use Rattle.trace_show.specs.declared.label.Label.{Label}
+use Rattle.trace_labels.specs.declared.label.Label.{Label}
 use Rattle.programs.specs.declared.program.Program.{Program}
 use Rattle.program_maker.specs.Programs.{IsProgram}
 use Rattle.world_parts.specs.Held.{Held}

@@ -13,12 +13,12 @@ use Rattle.sync_items.specs.Graphs.{is_plain, runs_synchronously}
 use Rattle.script_reader.specs.declared.fault.ScriptFault.{ScriptFault}
 use Rattle.script_reader.specs.Script.{Script, AreItems}
 use Rattle.script_reader.specs.Laws.{ScriptsCallExports}
-use Rattle.canonical_machine.specs.Sound.{IsSound}
-use Rattle.canonical_machine.specs.Owners.{IsApart}
-use Rattle.canonical_machine.specs.Plain.{IsPlain}
-use Rattle.canonical_machine.specs.declared.run_end.RunEnd.{RunEnd}
-use Rattle.canonical_machine.specs.declared.run_end.RunEnd.TheVariants as ends
-use Rattle.canonical_machine.specs.Run.{trace_of}
+use Rattle.world.specs.Sound.{IsSound}
+use Rattle.world.specs.Owners.{IsApart}
+use Rattle.world.specs.Plain.{IsPlain}
+use Rattle.world.specs.declared.run_end.RunEnd.{RunEnd}
+use Rattle.world.specs.declared.run_end.RunEnd.TheVariants as ends
+use Rattle.world.specs.Run.{trace_of}
 use Rattle.trace_show.specs.LabelText.{trace_text}
 use Rattle.trace_show.specs.DumpText.{dump_text}
 use Rattle.builtins.specs.declared.script_run.Run.{Run}

@@ -15,9 +15,9 @@ use Rattle.comp_graph.proofs.RunningTold.{runs_told}
 use Rattle.sync_items.specs.Graphs.{holds_any, held_any, passes_none, export_passes_none, call_passes_none, is_plain, runs_synchronously}
 use Rattle.script_reader.specs.declared.script.Item.{Item}
 use Rattle.script_reader.specs.declared.script.Item.TheVariants as item
-use Rattle.canonical_machine.specs.Sound.{IsSoundItem}
-use Rattle.canonical_machine.specs.Plain.{HoldsNone, PassesNone}
-use Rattle.canonical_machine.specs.Synchronous.{called_type}
+use Rattle.world.specs.Sound.{IsSoundItem}
+use Rattle.world.specs.Plain.{HoldsNone, PassesNone}
+use Rattle.world.specs.Synchronous.{called_type}
 use Rattle.graph_laws.specs.Scripts.{is_call, only_calls}
 use Rattle.wcm.specs.Laws.{SoundScriptsAreSynchronous}
 

@@ -16,12 +16,12 @@ use Rattle.world_dumps.specs.Tables as tables
 use Rattle.value_moves.specs.Passing.{Passes}
 use Rattle.machine_runs.specs.declared.ending.RunEnd as runs
 use Rattle.machine_runs.specs.Worlds.{first_point, IsRun}
-use Rattle.trace_show.specs.declared.label.Label.{Label}
+use Rattle.trace_labels.specs.declared.label.Label.{Label}
 use Rattle.trace_show.specs.LabelText.{trace_text}
-use Rattle.canonical_machine.specs.declared.run_end.RunEnd.{RunEnd}
-use Rattle.canonical_machine.specs.World.{World}
-use Rattle.canonical_machine.specs.Run.{Runs, trace_of}
-use Rattle.canonical_machine.specs.Dump.{dump_of}
+use Rattle.world.specs.declared.run_end.RunEnd.{RunEnd}
+use Rattle.world.specs.World.{World}
+use Rattle.world.specs.Run.{Runs, trace_of}
+use Rattle.world.specs.Dump.{dump_of}
 use Rattle.answer_texts.specs.Refusals.{refused_line, link_refused_line, script_refused_line}
 use Rattle.answer_texts.specs.Shown.{accepted_text, graph_text}
 use Rattle.command_words.specs.Words.{Command, Run, Check, Show, component_file}

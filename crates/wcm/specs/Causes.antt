@@ -13,12 +13,12 @@ use Rattle.value_moves.specs.Passing.{Passes}
 use Rattle.machine_runs.specs.declared.ending.RunEnd as runs
 use Rattle.machine_runs.specs.declared.ending.RunEnd.TheVariants as run
 use Rattle.machine_runs.specs.Worlds.{first_point, IsRun}
-use Rattle.trace_show.specs.declared.label.Label.{Label}
-use Rattle.trace_show.specs.declared.trap.TrapName.{TrapName}
-use Rattle.canonical_machine.specs.declared.run_end.RunEnd.{RunEnd}
-use Rattle.canonical_machine.specs.declared.run_end.RunEnd.TheVariants as ends
-use Rattle.canonical_machine.specs.World.{World}
-use Rattle.canonical_machine.specs.Run.{Runs}
+use Rattle.trace_labels.specs.declared.label.Label.{Label}
+use Rattle.trace_labels.specs.declared.trap.TrapName.{TrapName}
+use Rattle.world.specs.declared.run_end.RunEnd.{RunEnd}
+use Rattle.world.specs.declared.run_end.RunEnd.TheVariants as ends
+use Rattle.world.specs.World.{World}
+use Rattle.world.specs.Run.{Runs}
 use Rattle.command_words.specs.Words.{Command, Run, Check, Show, component_file}
 use Rattle.wcm.specs.declared.status.Status.{Status}
 use Rattle.wcm.specs.declared.status.Status.TheVariants.{Done, Trap, Usage, Refused, ScriptRefused, Deadlock, Fuel, ReadFault, WriteFault, Memory, LinkRefused}

@@ -13,7 +13,7 @@ use Rattle.script_reader.specs.Script.{Script, IsScript, IsScriptRefused}
 use Rattle.link_spec.specs.declared.fault.LinkFault.{LinkFault}
 use Rattle.link_spec.specs.Linked.{IsLinked, IsLinkRefused}
 use Rattle.comp_graph.specs.Graph.{Graph}
-use Rattle.canonical_machine.specs.Sound.{AreBytes}
+use Rattle.lowering_laws.specs.Values.{AreBytes}
 use Rattle.command_words.specs.Words.{Command, Run, Check, Show, component_file}
 use Rattle.wcm.specs.Machines.{is_synchronous}
 

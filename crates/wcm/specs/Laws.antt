@@ -8,10 +8,11 @@ use Rattle.wcm.specs.declared.status.Status.{Status}
 use Rattle.wcm.specs.declared.status.Status.TheVariants.{Refused, LinkRefused}
 use Rattle.comp_graph.specs.Graph.{Graph}
 use Rattle.link_spec.specs.Linked.{IsLinked}
-use Rattle.canonical_machine.specs.Sound.{AreBytes, IsSound}
-use Rattle.canonical_machine.specs.Plain.{IsPlain}
+use Rattle.lowering_laws.specs.Values.{AreBytes}
+use Rattle.world.specs.Sound.{IsSound}
+use Rattle.world.specs.Plain.{IsPlain}
 use Rattle.programs.specs.declared.program.Program.{Program}
-use Rattle.trace_show.specs.declared.label.Label.{Label}
+use Rattle.trace_labels.specs.declared.label.Label.{Label}
 use Rattle.world_parts.specs.Held.{Held}
 use Rattle.value_moves.specs.Passing.{Passes}
 use Rattle.machine_runs.specs.declared.ending.RunEnd.{RunEnd}
@@ -20,10 +21,11 @@ use Rattle.wcm.specs.Answers.{Answers, no_command, file_refused, not_linked, acc
 use Rattle.wcm.specs.Causes.{HasCause}
 use Rattle.wcm.specs.Files.{IsComponentTold, IsTold, IsSynchronous}
 use Rattle.wcm.specs.Machines.{is_synchronous}
+use Rattle.wcm.specs.Piped.{PipeAnswers, pipe_refused, pipe_not_linked, pipe_script_refused, piped}
 use Rattle.command_words.specs.Words.{Command}
 
 -- A script that is read for a component that is read of bytes and linked is sound, if the machine of synchronous calls runs it: so it has
--- exactly one run (`specs/Ending` of canonical_machine).
+-- exactly one run (`specs/Ending` of synchronous_laws).
 abbrev pub ScriptsAreSound : Type 0
 ScriptsAreSound =
     (bytes text : List ℕ) (c : Component) (g : Graph) (script : Script)
@@ -78,6 +80,18 @@ abbrev pub SomeAnswer : Type 0
 SomeAnswer =
     (held : List ℕ → Option (List ℕ)) (words : Option Command)
     → HoldsBytes held → IsTold held words → IsSynchronous held words → (a : Answer) × Answers held words a
+
+-- A pipe has one answer at the most, where its runs are of one program that runs once.
+abbrev pub pipe_program : (seed count : ℕ) (a : Answer) → PipeAnswers seed count a → Option Program
+pipe_program seed count a (pipe_refused refusal r) = None
+pipe_program seed count a (pipe_not_linked c fault r f) = None
+pipe_program seed count a (pipe_script_refused c g fault r l f) = None
+pipe_program seed count a (piped c g calls p lines last end r l s is_of goes) = Some p
+
+abbrev pub OnePipe : Type 0
+OnePipe =
+    (seed count : ℕ) (a b : Answer) (h : PipeAnswers seed count a) (k : PipeAnswers seed count b)
+    → IsOneProgram (pipe_program seed count a h) (pipe_program seed count b k) → IfSome (pipe_program seed count a h) RunsOnce → b ≡ a
 
 -- The status of an answer has its cause, and each cause has an answer with its status.
 abbrev pub StatusesHaveCauses : Type 0

@@ -3,6 +3,7 @@ pub mod Causes
 pub mod Files
 pub mod Laws
 pub mod Machines
+pub mod Piped
 pub mod Status
 pub mod Stops
 pub mod Written

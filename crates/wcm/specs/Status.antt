@@ -1,7 +1,7 @@
 -- The statuses of the program: which number each has, and which one a run's end has.
 use Rattle.std.specs.Prelude.{ℕ}
-use Rattle.canonical_machine.specs.declared.run_end.RunEnd.{RunEnd}
-use Rattle.canonical_machine.specs.declared.run_end.RunEnd.TheVariants as ends
+use Rattle.world.specs.declared.run_end.RunEnd.{RunEnd}
+use Rattle.world.specs.declared.run_end.RunEnd.TheVariants as ends
 use Rattle.machine_runs.specs.declared.ending.RunEnd as runs
 use Rattle.machine_runs.specs.declared.ending.RunEnd.TheVariants as run
 use Rattle.wcm.specs.declared.status.Status.{Status}

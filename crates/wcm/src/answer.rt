@@ -5,10 +5,10 @@ ghost use Rattle.script_reader.specs.Script.{AreItems};
 ghost use Rattle.link_spec.specs.Linked.{IsLinked};
 ghost use Rattle.trace_show.specs.LabelText.{trace_text};
 ghost use Rattle.trace_show.specs.DumpText.{dump_text};
-ghost use Rattle.canonical_machine.specs.Run.{trace_of};
-ghost use Rattle.canonical_machine.specs.Sound.{IsSound};
-ghost use Rattle.canonical_machine.specs.Owners.{IsApart};
-ghost use Rattle.canonical_machine.specs.Plain.{IsPlain};
+ghost use Rattle.world.specs.Run.{trace_of};
+ghost use Rattle.world.specs.Sound.{IsSound};
+ghost use Rattle.world.specs.Owners.{IsApart};
+ghost use Rattle.world.specs.Plain.{IsPlain};
 ghost use Rattle.wcm.specs.Answers.{Answers, accepted_answer, shown_answer};
 ghost use Rattle.wcm.specs.Files.{IsRead, IsOfComponent, IsFileRead, IsFileRefused, IsFileLinked, IsScriptFile, IsScriptFileRefused};
 ghost use Rattle.wcm.specs.Machines.{is_synchronous};
@@ -150,7 +150,7 @@ fn script_of<F: Files>(
 }
 
 /// An answer without a run, that has this text for the error output.
-fn refusal(alloc: Global, status: Status, err: Bytes) -> Answer
+pub fn refusal(alloc: Global, status: Status, err: Bytes) -> Answer
     ensures { result ≡ record { status = status; out = []; err = err } }
 {
     Answer {

@@ -1,14 +1,14 @@
 //! What holds of the definitions alone.
 
-ghost use Rattle.wcm.specs.Laws.{CausesHaveAnswers, OneAnswer, RefusedFilesTellAll, ScriptsAreSound, SomeAnswer, SoundScriptsAreSynchronous, StatusesHaveCauses};
+ghost use Rattle.wcm.specs.Laws.{CausesHaveAnswers, OneAnswer, OnePipe, RefusedFilesTellAll, ScriptsAreSound, SomeAnswer, SoundScriptsAreSynchronous, StatusesHaveCauses};
 
-use canonical_machine::runs_end;
 use comp_reader::one_reading;
 use graph_laws::laws::{
     calls_are_sound, linked_graphs_are_apart, read_graphs_are_sound, read_types_are_counted,
 };
 use link_spec::laws::graphs_are_computed;
 use script_reader::scripts_call_exports;
+use synchronous_laws::runs_end;
 
 /// A script that is read for a component that is read of bytes and linked is sound, if the machine of synchronous calls runs it.
 pub fn scripts_are_sound()
@@ -38,6 +38,12 @@ pub fn one_answer()
     linked_graphs_are_apart();
     runs_end();
 }
+
+/// A pipe has one answer at the most, where its runs are of one program that runs once.
+#[tactic(auto, using(crate::proofs::OnePipe::one_pipe))]
+pub fn one_pipe()
+    ensures { OnePipe }
+{}
 
 /// The status of an answer has its cause, and each cause has an answer with its status. A component file that is told and refused, or
 /// whose component is not linked, leaves nothing to be told and nothing to be run.

@@ -1,7 +1,8 @@
 //! Runs components.
 //!
 //! - `top`: the call that reads the words and the files, and writes the answer
-//! - `answer`: the answer of a command; `run_on`: that of a run by the machine of asynchronous calls; `status`: how a call ends
+//! - `asked`: the answer to what words ask for; `answer`: that of a command; `piped`: that of a pipe; `run_on`: that of a
+//!   run by the machine of asynchronous calls; `status`: how a call ends
 //! - `gathered`: a sink that gathers all that is written
 //! - `adapters`: the files of the system and the standard streams
 //! - `laws`: what holds of the definitions alone
@@ -9,8 +10,10 @@
 
 mod adapters;
 mod answer;
+mod asked;
 mod gathered;
 mod laws;
+mod piped;
 mod run_on;
 mod status;
 mod top;
@@ -18,6 +21,8 @@ mod top;
 mod top_tests;
 #[cfg(test)]
 mod top_tests_cases;
+#[cfg(test)]
+mod top_tests_pipes;
 
 use adapters::{Stream, SystemFiles};
 use status::{Status, exit_code};

@@ -2,7 +2,7 @@
 
 ghost use Rattle.std.specs.Prelude.{◌≡◌, ℕ, false, ◌++◌, List, Option, Some, IfOk};
 ghost use Rattle.laid_types.specs.SameTypes.{AreDistinct};
-ghost use Rattle.trace_show.specs.declared.label.Label.{Label};
+ghost use Rattle.trace_labels.specs.declared.label.Label.{Label};
 ghost use Rattle.world_parts.specs.Held.{Held};
 ghost use Rattle.value_moves.specs.Passing.{Passes};
 ghost use Rattle.machine_runs.specs.Worlds.{first_point, StepsOn, IsRun};

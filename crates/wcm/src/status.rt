@@ -4,9 +4,9 @@ ghost use Rattle.std.specs.Prelude.{◌≡◌};
 ghost use Rattle.std.specs.Process.{exit_status};
 ghost use Rattle.wcm.specs.Status.{status_of, status_of_run, status_code};
 
-use canonical_machine::RunEnd;
 use machine_runs::RunEnd as KeptEnd;
 use std::process::ExitCode;
+use world::RunEnd;
 
 /// How a call of the program ends.
 #[derive(Clone, Copy, Debug)]

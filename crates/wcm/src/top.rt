@@ -4,18 +4,17 @@ ghost use Rattle.std.specs.Prelude.{false, Some, ◌≡◌, ◌≢◌, ◌<◌, 
 ghost use Rattle.ca_io.specs.Causes.{Rose};
 ghost use Rattle.ca_io.specs.Bytes.{grown, TookFront};
 ghost use Rattle.wcm.specs.declared.answer.Answer.{Answer};
-ghost use Rattle.wcm.specs.Answers.{Answers};
-ghost use Rattle.wcm.specs.Causes.{IsCaused};
-ghost use Rattle.wcm.specs.Files.{IsTold};
+ghost use Rattle.wcm.specs.Piped.{Answered, IsAskedFor, IsAskedTold};
 ghost use Rattle.wcm.specs.Status.{IsFinal};
-ghost use Rattle.command_words.specs.Words.{Command, command_of, is_taken, plain_command};
+ghost use Rattle.command_words.specs.Words.{Request, Pipe, is_taken, plain_request, request_of};
 ghost use Rattle.wcm.specs.Written.{WroteAll, WroteFront, WroteFrontOrLine};
 
-use crate::answer::{Answer, Stop, answer_of};
+use crate::answer::{Answer, Stop};
+use crate::asked::answer_to;
 use crate::status::Status;
 use ca_base::MemoryOr;
 use ca_io::{Failed, Files, Sink, write_all};
-use command_words::command_of;
+use command_words::request_of;
 use std::alloc::Global;
 
 /// The line for a file that was not read.
@@ -39,13 +38,15 @@ fn write_answer<K: Sink>(answer: &Answer, out: &mut K, err: &mut K) -> Result<()
 }
 
 /// Runs the command that the words say, over the files, the output and the error output that are handed in, and
-/// answers how it ends. `words[0]` is the program's name. Every command reads and links the component file FILE. Then
+/// answers how it ends. `words[0]` is the program's name. `check`, `show` and `run` read and link the component file FILE. Then
 /// `check FILE` tells that it is linked, `show FILE` what can be called of it, and `run FILE SCRIPT` reads the script file,
 /// makes the core instances and then the script's calls, and writes the trace to the output; with `--dump` what the run
-/// leaves stands behind it. For words that are none of these a text for the user goes to the error output.
+/// leaves stands behind it. `pipe SEED N` makes a component in which N numbers go through a stream, runs it, and tells in
+/// four lines what went through. For words that are none of these a text for the user goes to the error output.
 ///
 /// What it answers is a row of `Answers`, by the command that the words lead to and what the files may hold: what is told of them, or
-/// anything. They are told where the component file is, and, where `run` finds that one linked, the script file too.
+/// anything. They are told where the component file is, and, where `run` finds that one linked, the script file too. For a pipe it is
+/// a row of `PipeAnswers`, by both numbers alone.
 #[tactic(auto, using(crate::proofs::Taken::grown_nil, crate::proofs::Taken::took, command_words::proofs::Plain::plain_is))]
 pub fn run_words<F: Files, K: Sink>(
     alloc: Global,
@@ -59,24 +60,24 @@ pub fn run_words<F: Files, K: Sink>(
         → (Rose (K.faults out.old) (K.faults out.new) → ⊥)
         → (Rose (K.faults err.old) (K.faults err.new) → ⊥)
         → result ≢ Status.Memory
-        → (a : Answer) × Answers (F.held files.old) (command_of (map string_bytes words.now)) a × (result ≡ a.status)
+        → (a : Answer) × Answered (F.held files.old) (request_of (map string_bytes words.now)) a × (result ≡ a.status)
         × WroteAll a (K.taken out.old) (K.taken out.new) (K.taken err.old) (K.taken err.new) }
 
     // The same where no fault and no want of memory ended the call. Where the files are told, and what runs is synchronous, each status
     // comes exactly where it has a cause in what they hold.
     ensures written { IsFinal result
-        → (a : Answer) × Answers (F.held files.old) (command_of (map string_bytes words.now)) a × (result ≡ a.status)
+        → (a : Answer) × Answered (F.held files.old) (request_of (map string_bytes words.now)) a × (result ≡ a.status)
         × WroteAll a (K.taken out.old) (K.taken out.new) (K.taken err.old) (K.taken err.new) }
-    ensures status { IsFinal result → IsCaused (F.held files.old) (command_of (map string_bytes words.now)) result }
+    ensures status { IsFinal result → IsAskedFor (F.held files.old) (request_of (map string_bytes words.now)) result }
 
     // Usage only where clap's command does not take the words; wherever it does not, unless a write fault or want of memory
-    // took its place. The files and the output are left alone then. Plain words lead to the command that they name.
+    // took its place. The files and the output are left alone then. Plain words lead to what they ask for.
     ensures usage { result ≡ Status.Usage → is_taken (map string_bytes words.now) ≡ false }
     ensures usage_is_told { is_taken (map string_bytes words.now) ≡ false
         → (result ≡ Status.Usage) ⊎ (result ≡ Status.WriteFault) ⊎ (result ≡ Status.Memory) }
     ensures usage_is_silent { is_taken (map string_bytes words.now) ≡ false → (files.new ≡ files.old) × (out.new ≡ out.old) }
-    ensures plain { (command : Command) → plain_command (map string_bytes words.now) ≡ Some command
-        → (command_of (map string_bytes words.now) ≡ Some command) × (result ≢ Status.Usage) }
+    ensures plain { (request : Request) → plain_request (map string_bytes words.now) ≡ Some request
+        → (request_of (map string_bytes words.now) ≡ Some request) × (result ≢ Status.Usage) }
 
     // A read fault, only where the count of the files' faults rose; wherever it grew, unless a write fault or want of
     // memory took its place. The output took nothing, and the error output the line.
@@ -94,7 +95,7 @@ pub fn run_words<F: Files, K: Sink>(
     ensures write_fault_is_told { (K.faults out.old < K.faults out.new) ⊎ (K.faults err.old < K.faults err.new)
         → (result ≡ Status.WriteFault) ⊎ (result ≡ Status.Memory) }
     ensures write_fault_front { result ≡ Status.WriteFault
-        → ((a : Answer) × Answers (F.held files.old) (command_of (map string_bytes words.now)) a
+        → ((a : Answer) × Answered (F.held files.old) (request_of (map string_bytes words.now)) a
         × WroteFront a (K.taken out.old) (K.taken out.new) (K.taken err.old) (K.taken err.new))
         ⊎ (Rose (F.faults files.old) (F.faults files.new)
         × (K.taken out.new ≡ K.taken out.old)
@@ -102,17 +103,18 @@ pub fn run_words<F: Files, K: Sink>(
 
     // After want of memory, where the files are told, the output took a front of what the answer has for it, and the error output a
     // front of what the answer has for it or of the line, which is whole where the error output did not fail.
-    ensures memory { IsTold (F.held files.old) (command_of (map string_bytes words.now))
-        → (a : Answer) → Answers (F.held files.old) (command_of (map string_bytes words.now)) a → result ≡ Status.Memory
+    ensures memory { IsAskedTold (F.held files.old) (request_of (map string_bytes words.now))
+        → (a : Answer) → Answered (F.held files.old) (request_of (map string_bytes words.now)) a → result ≡ Status.Memory
         → WroteFrontOrLine a (codes "want of memory" ++ 10 ∷ []) (K.taken out.old) (K.taken out.new) (K.taken err.old) (K.taken err.new) }
     ensures memory_line { result ≡ Status.Memory → (Rose (K.faults err.old) (K.faults err.new) → ⊥)
         → K.taken err.new ≡ grown (K.taken err.old) (codes "want of memory" ++ 10 ∷ []) }
 
-    // What the files hold stays.
+    // What the files hold stays, and a pipe leaves them alone.
     ensures held { (name : List ℕ) → F.held files.new name ≡ F.held files.old name }
+    ensures pipe_reads_nothing { (seed count : ℕ) → request_of (map string_bytes words.now) ≡ Some (Pipe seed count) → files.new ≡ files.old }
 {
-    match command_of(alloc, words) {
-        Ok(command) => match answer_of(alloc, command, files) {
+    match request_of(alloc, words) {
+        Ok(request) => match answer_to(alloc, request, files) {
             Ok(answer) => match write_answer(&answer, out, err) {
                 Ok(()) => answer.status,
                 Err(Failed) => Status::WriteFault,

@@ -232,6 +232,7 @@ fn laws_hold() {
     laws::scripts_are_sound();
     laws::sound_scripts_are_synchronous();
     laws::one_answer();
+    laws::one_pipe();
     laws::statuses_have_causes();
     command_words::laws::plain_words_are_taken();
     command_words::laws::taken_words_are_read();

@@ -32,7 +32,7 @@ pub const TRAPPING: [u8; 47] = [
 ];
 
 /// How many lines of words are no command.
-pub const WORDS_COUNT: u32 = 34;
+pub const WORDS_COUNT: u32 = 47;
 
 /// Lines of words that are no command, which is told before any file is read.
 pub const WORDS: &str = "\
@@ -70,13 +70,68 @@ wcm help
 wcm help run
 wcm -- run add.wasm add.txt
 add.wasm add.txt
+wcm pipe
+wcm pipe 1
+wcm pipe 1 2 3
+wcm pipe 1 1000001
+wcm pipe 2147483648 1
+wcm pipe one 1
+wcm pipe 1 -- -1
+wcm pipe -1 1
+wcm pipe 1 2 --dump
+wcm pipe --dump 1 2
+wcm pipe 0x1 2
+wcm pipe 1 2.0
+wcm pipe add.wasm add.txt
 ";
 
 /// How many cases there are.
-pub const COUNT: u32 = 54;
+pub const COUNT: u32 = 59;
 
 /// The cases.
 pub const CASES: &str = "
+# a pipe reads no file; its first read of one would fail
+reads 1
+words wcm pipe 1 2
+status Done
+out seed 1
+out elements 2
+out sum 1480929165
+out done
+
+reads 1
+words wcm pipe 1 0
+status Done
+out seed 1
+out elements 0
+out sum 0
+out done
+
+# a sign and leading zeros change nothing
+reads 1
+words wcm pipe +1 0002
+status Done
+out seed 1
+out elements 2
+out sum 1480929165
+out done
+
+reads 1
+words wcm pipe 0 2
+status Done
+out seed 0
+out elements 2
+out sum 1406944951
+out done
+
+# the output takes no more behind its second write
+most 5
+writes 3
+words wcm pipe 1 2
+status WriteFault
+out seed 1
+part ele
+
 # the option stands anywhere behind `run` but behind `--`, where it is a name
 words wcm run --dump add.wasm add.txt
 script call add (2, 3)

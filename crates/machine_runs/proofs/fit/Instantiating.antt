@@ -19,7 +19,7 @@ use Rattle.instances.specs.Instances.{InstanceView, new_instance}
 use Rattle.comp_graph.specs.declared.graph.Action.{Action}
 use Rattle.comp_graph.specs.declared.graph.Action.TheVariants.{Begin, Make}
 use Rattle.comp_graph.specs.Graph.{CoreMake, Graph}
-use Rattle.trace_show.specs.declared.trap.TrapName.TheVariants as trap
+use Rattle.trace_labels.specs.declared.trap.TrapName.TheVariants as trap
 use Rattle.task_table.specs.declared.errand.Errand.TheVariants as errand
 use Rattle.tasks.specs.declared.event.TaskEvent.TheVariants.{Exit}
 use Rattle.world_parts.specs.declared.parts.Rest.TheVariants as rest

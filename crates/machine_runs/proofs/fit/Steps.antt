@@ -7,7 +7,7 @@ use Rattle.wasm_store.specs.Typed.{StoreTyped, Extends}
 use Rattle.comp_graph.specs.Graph.{Graph}
 use Rattle.script_reader.specs.Script.{Script}
 use Rattle.programs.specs.declared.program.Program.{Program}
-use Rattle.trace_show.specs.declared.label.Label.{Label}
+use Rattle.trace_labels.specs.declared.label.Label.{Label}
 use Rattle.world_parts.specs.declared.parts.Flow.{Flow}
 use Rattle.world_parts.specs.declared.parts.Rest.{Rest}
 use Rattle.world_parts.specs.declared.parts.Rest.TheVariants as rest

@@ -2,46 +2,46 @@ use Rattle.std.proofs.Common.{◌≡◌, [], Option, Some, None, false, refl, sy
 use Rattle.ca_base.specs.Faults.{IfFault}
 use Rattle.ca_base.specs.declared.memory.MemoryOr.{MemoryOr}
 use Rattle.ca_base.specs.declared.memory.MemoryOr.TheVariants.{Fault}
-use Rattle.command_words.specs.Words.{Command, command_of, is_taken}
+use Rattle.command_words.specs.Words.{Request, request_of, is_taken}
 use Rattle.command_words.proofs.Plain.{plain_is}
 use Rattle.wcm.specs.Answers.{usage_answer}
 use Rattle.wcm.proofs.Taken.{grown_nil, took, took_none}
-use Rattle.wcm.proofs.Caused.{for_words, for_none, caused}
+use Rattle.wcm.proofs.Requests.{asked_for, asked_none, asked_caused}
 use Rattle.wcm.proofs.top.run_words.Goals as goal
 
 -- what is said of a fault, where this is the error
 of_fault : {F : Type 0} (P : Type 0) (e : MemoryOr F) (f : F) → e ≡ Fault f → IfFault e (λ f. P) → P
 of_fault P e f is h = subst (λ x. IfFault x (λ f. P)) is h
 
-some_or_none : (command : Command) (o : Option Command) → o ≡ Some command → o ≡ None → ⊥
+some_or_none : (command : Request) (o : Option Request) → o ≡ Some command → o ≡ None → ⊥
 some_or_none command o e f = cc
 
 pub returns-in-Ok-write_answer-clause-headline : goal.returns-in-Ok-write_answer-clause-headline
-returns-in-Ok-write_answer-clause-headline g c = λ files out err memory. (c.in-Ok-answer_of.answer, for_words (g.F.Files.held c.args.files.now) (command_of (map string_bytes c.args.words.now)) _ c.in-Ok-answer_of.answer c.in-Ok.ensures.ok.0 c.in-Ok-answer_of.ensures.files, refl, c.in-Ok-write_answer.ensures.ok)
+returns-in-Ok-write_answer-clause-headline g c = λ files out err memory. (c.in-Ok-answer_to.answer, asked_for (g.F.Files.held c.args.files.now) (request_of (map string_bytes c.args.words.now)) _ c.in-Ok-answer_to.answer c.in-Ok.ensures.ok.0 c.in-Ok-answer_to.ensures.files, refl, c.in-Ok-write_answer.ensures.ok)
 
 pub returns-in-Ok-write_answer-clause-written : goal.returns-in-Ok-write_answer-clause-written
-returns-in-Ok-write_answer-clause-written g c = λ final. (c.in-Ok-answer_of.answer, for_words (g.F.Files.held c.args.files.now) (command_of (map string_bytes c.args.words.now)) _ c.in-Ok-answer_of.answer c.in-Ok.ensures.ok.0 c.in-Ok-answer_of.ensures.files, refl, c.in-Ok-write_answer.ensures.ok)
+returns-in-Ok-write_answer-clause-written g c = λ final. (c.in-Ok-answer_to.answer, asked_for (g.F.Files.held c.args.files.now) (request_of (map string_bytes c.args.words.now)) _ c.in-Ok-answer_to.answer c.in-Ok.ensures.ok.0 c.in-Ok-answer_to.ensures.files, refl, c.in-Ok-write_answer.ensures.ok)
 
 pub returns-in-Ok-write_answer-clause-status : goal.returns-in-Ok-write_answer-clause-status
-returns-in-Ok-write_answer-clause-status g c = λ final. caused (g.F.Files.held c.args.files.now) (command_of (map string_bytes c.args.words.now)) c.in-Ok-answer_of.answer _ (for_words (g.F.Files.held c.args.files.now) (command_of (map string_bytes c.args.words.now)) _ c.in-Ok-answer_of.answer c.in-Ok.ensures.ok.0 c.in-Ok-answer_of.ensures.files) refl
+returns-in-Ok-write_answer-clause-status g c = λ final. asked_caused (g.F.Files.held c.args.files.now) (request_of (map string_bytes c.args.words.now)) c.in-Ok-answer_to.answer _ (asked_for (g.F.Files.held c.args.files.now) (request_of (map string_bytes c.args.words.now)) _ c.in-Ok-answer_to.answer c.in-Ok.ensures.ok.0 c.in-Ok-answer_to.ensures.files) refl
 
-pub returns-in-Ok-answer_of-clause-write_fault_front : goal.returns-in-Ok-answer_of-clause-write_fault_front
-returns-in-Ok-answer_of-clause-write_fault_front g c = λ fault. inl (c.in-Ok-answer_of.answer, for_words (g.F.Files.held c.args.files.now) (command_of (map string_bytes c.args.words.now)) _ c.in-Ok-answer_of.answer c.in-Ok.ensures.ok.0 c.in-Ok-answer_of.ensures.files, c.in-Err.ensures.failed)
+pub returns-in-Ok-answer_to-clause-write_fault_front : goal.returns-in-Ok-answer_to-clause-write_fault_front
+returns-in-Ok-answer_to-clause-write_fault_front g c = λ fault. inl (c.in-Ok-answer_to.answer, asked_for (g.F.Files.held c.args.files.now) (request_of (map string_bytes c.args.words.now)) _ c.in-Ok-answer_to.answer c.in-Ok.ensures.ok.0 c.in-Ok-answer_to.ensures.files, c.in-Err.ensures.failed)
 
 pub returns-in-Ok-write_all-2-clause-headline : goal.returns-in-Ok-write_all-2-clause-headline
-returns-in-Ok-write_all-2-clause-headline g c = λ files out err memory. (usage_answer c.as_slice.result.now, for_none (g.F.Files.held c.args.files.now) (command_of (map string_bytes c.args.words.now)) c.as_slice.result.now (of_fault ((command_of (map string_bytes c.args.words.now) ≡ None) × (is_taken (map string_bytes c.args.words.now) ≡ false)) c.in-Err-Fault.field-0 _ c.in-Err-Fault.field-0-is c.in-Err-Fault.ensures.refused).0, refl, record { out = sym (grown_nil _); err = c.in-Ok-write_all-2.ensures.ok })
+returns-in-Ok-write_all-2-clause-headline g c = λ files out err memory. (usage_answer c.as_slice.result.now, asked_none (g.F.Files.held c.args.files.now) (request_of (map string_bytes c.args.words.now)) c.as_slice.result.now (of_fault ((request_of (map string_bytes c.args.words.now) ≡ None) × (is_taken (map string_bytes c.args.words.now) ≡ false)) c.in-Err-Fault.field-0 _ c.in-Err-Fault.field-0-is c.in-Err-Fault.ensures.refused).0, refl, record { out = sym (grown_nil _); err = c.in-Ok-write_all-2.ensures.ok })
 
 pub returns-in-Ok-write_all-2-clause-written : goal.returns-in-Ok-write_all-2-clause-written
-returns-in-Ok-write_all-2-clause-written g c = λ final. (usage_answer c.as_slice.result.now, for_none (g.F.Files.held c.args.files.now) (command_of (map string_bytes c.args.words.now)) c.as_slice.result.now (of_fault ((command_of (map string_bytes c.args.words.now) ≡ None) × (is_taken (map string_bytes c.args.words.now) ≡ false)) c.in-Err-Fault.field-0 _ c.in-Err-Fault.field-0-is c.in-Err-Fault.ensures.refused).0, refl, record { out = sym (grown_nil _); err = c.in-Ok-write_all-2.ensures.ok })
+returns-in-Ok-write_all-2-clause-written g c = λ final. (usage_answer c.as_slice.result.now, asked_none (g.F.Files.held c.args.files.now) (request_of (map string_bytes c.args.words.now)) c.as_slice.result.now (of_fault ((request_of (map string_bytes c.args.words.now) ≡ None) × (is_taken (map string_bytes c.args.words.now) ≡ false)) c.in-Err-Fault.field-0 _ c.in-Err-Fault.field-0-is c.in-Err-Fault.ensures.refused).0, refl, record { out = sym (grown_nil _); err = c.in-Ok-write_all-2.ensures.ok })
 
 pub returns-in-Ok-write_all-2-clause-status : goal.returns-in-Ok-write_all-2-clause-status
-returns-in-Ok-write_all-2-clause-status g c = λ final. caused (g.F.Files.held c.args.files.now) (command_of (map string_bytes c.args.words.now)) (usage_answer c.as_slice.result.now) _ (for_none (g.F.Files.held c.args.files.now) (command_of (map string_bytes c.args.words.now)) c.as_slice.result.now (of_fault ((command_of (map string_bytes c.args.words.now) ≡ None) × (is_taken (map string_bytes c.args.words.now) ≡ false)) c.in-Err-Fault.field-0 _ c.in-Err-Fault.field-0-is c.in-Err-Fault.ensures.refused).0) refl
+returns-in-Ok-write_all-2-clause-status g c = λ final. asked_caused (g.F.Files.held c.args.files.now) (request_of (map string_bytes c.args.words.now)) (usage_answer c.as_slice.result.now) _ (asked_none (g.F.Files.held c.args.files.now) (request_of (map string_bytes c.args.words.now)) c.as_slice.result.now (of_fault ((request_of (map string_bytes c.args.words.now) ≡ None) × (is_taken (map string_bytes c.args.words.now) ≡ false)) c.in-Err-Fault.field-0 _ c.in-Err-Fault.field-0-is c.in-Err-Fault.ensures.refused).0) refl
 
 pub returns-in-Ok-write_all-2-clause-plain : goal.returns-in-Ok-write_all-2-clause-plain
-returns-in-Ok-write_all-2-clause-plain g c = λ command h. let named = plain_is (map string_bytes c.args.words.now) command h in (named, λ usage. some_or_none command (command_of (map string_bytes c.args.words.now)) named (of_fault ((command_of (map string_bytes c.args.words.now) ≡ None) × (is_taken (map string_bytes c.args.words.now) ≡ false)) c.in-Err-Fault.field-0 _ c.in-Err-Fault.field-0-is c.in-Err-Fault.ensures.refused).0)
+returns-in-Ok-write_all-2-clause-plain g c = λ command h. let named = plain_is (map string_bytes c.args.words.now) command h in (named, λ usage. some_or_none command (request_of (map string_bytes c.args.words.now)) named (of_fault ((request_of (map string_bytes c.args.words.now) ≡ None) × (is_taken (map string_bytes c.args.words.now) ≡ false)) c.in-Err-Fault.field-0 _ c.in-Err-Fault.field-0-is c.in-Err-Fault.ensures.refused).0)
 
 pub returns-in-Err-Fault-clause-write_fault_front : goal.returns-in-Err-Fault-clause-write_fault_front
-returns-in-Err-Fault-clause-write_fault_front g c = λ fault. inl (usage_answer c.as_slice.result.now, for_none (g.F.Files.held c.args.files.now) (command_of (map string_bytes c.args.words.now)) c.as_slice.result.now (of_fault ((command_of (map string_bytes c.args.words.now) ≡ None) × (is_taken (map string_bytes c.args.words.now) ≡ false)) c.in-Err-Fault.field-0 _ c.in-Err-Fault.field-0-is c.in-Err-Fault.ensures.refused).0, record { out = took_none _ _ [] refl; err = took c.write_all-in-Err-Fault.result (g.K.Sink.taken c.args.err.now) (g.K.Sink.taken c.write_all-in-Err-Fault.new.sink) c.as_slice.result.now c.write_all-in-Err-Fault.ensures.ok c.write_all-in-Err-Fault.ensures.failed })
+returns-in-Err-Fault-clause-write_fault_front g c = λ fault. inl (usage_answer c.as_slice.result.now, asked_none (g.F.Files.held c.args.files.now) (request_of (map string_bytes c.args.words.now)) c.as_slice.result.now (of_fault ((request_of (map string_bytes c.args.words.now) ≡ None) × (is_taken (map string_bytes c.args.words.now) ≡ false)) c.in-Err-Fault.field-0 _ c.in-Err-Fault.field-0-is c.in-Err-Fault.ensures.refused).0, record { out = took_none _ _ [] refl; err = took c.write_all-in-Err-Fault.result (g.K.Sink.taken c.args.err.now) (g.K.Sink.taken c.write_all-in-Err-Fault.new.sink) c.as_slice.result.now c.write_all-in-Err-Fault.ensures.ok c.write_all-in-Err-Fault.ensures.failed })
 
 pub returns-clause-plain : goal.returns-clause-plain
 returns-clause-plain g c = λ command h. (plain_is (map string_bytes c.args.words.now) command h, λ usage. cc)

@@ -1,20 +1,20 @@
 use Rattle.std.proofs.Common.{◌∙◌, map, string_bytes}
 use Rattle.clap.specs.Words.{app_of, subcommand_rows_of}
-use Rattle.command_words.specs.Words.{command_of_rows}
+use Rattle.command_words.specs.Words.{request_of_rows}
 use Rattle.command_words.proofs.Entries.{is_found, is_said}
-use Rattle.command_words.proofs.Readings.{some_command, read_command, is_read, refused_words, not_taken}
-use Rattle.command_words.proofs.words.command_of.Goals as goal
+use Rattle.command_words.proofs.Readings.{some_request, read_request, is_read, refused_words, not_taken}
+use Rattle.command_words.proofs.words.request_of.Goals as goal
 
 pub unwrap-requires : goal.unwrap-requires
 unwrap-requires c =
-    is_found c.command_in.result (command_of_rows (subcommand_rows_of c.in-Ok.matches)) c.command_in.ensures
-    (some_command (app_of c.in_ok-program.field-0) (map string_bytes c.args.words.now) _ _ c.in_ok-program.ensures c.in-Ok.ensures.matches c.in-Ok.ensures.kinds)
+    is_found c.request_in.result (request_of_rows (subcommand_rows_of c.in-Ok.matches)) c.request_in.ensures
+    (some_request (app_of c.in_ok-program.field-0) (map string_bytes c.args.words.now) _ _ c.in_ok-program.ensures c.in-Ok.ensures.matches c.in-Ok.ensures.kinds)
 
 pub returns-in-Ok-clause-ok : goal.returns-in-Ok-clause-ok
 returns-in-Ok-clause-ok c =
     let words = map string_bytes c.args.words.now in (
-      read_command (app_of c.in_ok-program.field-0) words (subcommand_rows_of c.in-Ok.matches) _ c.in_ok-program.ensures c.in-Ok.ensures.matches c.in-Ok.ensures.kinds
-          ∙ is_said c.command_in.result (command_of_rows (subcommand_rows_of c.in-Ok.matches)) c.unwrap.result c.unwrap.ensures c.command_in.ensures,
+      read_request (app_of c.in_ok-program.field-0) words (subcommand_rows_of c.in-Ok.matches) _ c.in_ok-program.ensures c.in-Ok.ensures.matches c.in-Ok.ensures.kinds
+          ∙ is_said c.request_in.result (request_of_rows (subcommand_rows_of c.in-Ok.matches)) c.unwrap.result c.unwrap.ensures c.request_in.ensures,
       is_read (app_of c.in_ok-program.field-0) words (subcommand_rows_of c.in-Ok.matches) _ c.in_ok-program.ensures c.in-Ok.ensures.matches c.in-Ok.ensures.kinds,
     )
 

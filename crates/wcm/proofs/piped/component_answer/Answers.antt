@@ -1,0 +1,19 @@
+use Rattle.std.proofs.Common.{◌≡◌, ℕ, List, [], ap, subst, ◌∙◌}
+use Rattle.ca_base.specs.Faults.{IfFault}
+use Rattle.ca_base.specs.declared.memory.MemoryOr.{MemoryOr}
+use Rattle.ca_base.specs.declared.memory.MemoryOr.TheVariants.{Fault}
+use Rattle.link_spec.specs.Linked.{IsLinkRefused}
+use Rattle.wcm.specs.declared.answer.Answer.{Answer}
+use Rattle.wcm.specs.declared.status.Status.TheVariants.{LinkRefused}
+use Rattle.wcm.proofs.Requests.{pipe_not_linked_row}
+use Rattle.wcm.proofs.piped.component_answer.Goals as goal
+
+-- what is said of a fault, where this is the error
+of_fault : {F : Type 0} (P : F → Type 0) (e : MemoryOr F) (f : F) → e ≡ Fault f → IfFault e P → P f
+of_fault P e f is h = subst (λ x. IfFault x P) is h
+
+pub returns-in_ok-line-in-Err-Fault-clause-answers : goal.returns-in_ok-line-in-Err-Fault-clause-answers
+returns-in_ok-line-in-Err-Fault-clause-answers c =
+    pipe_not_linked_row c.args.component.now c.in-Err-Fault.fault c.args.seed c.refusal.result
+    (of_fault (IsLinkRefused c.args.component.now) c.in-Err-Fault.field-0 c.in-Err-Fault.fault c.in-Err-Fault.field-0-is c.in-Err-Fault.ensures.refused)
+    (c.refusal.ensures ∙ ap (λ (err : List ℕ). (let a : Answer = record { status = LinkRefused; out = []; err = err } in a)) c.in_ok-line-in-Err-Fault.ensures)
