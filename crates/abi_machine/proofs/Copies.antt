@@ -16,10 +16,10 @@ use Rattle.comp_graph.specs.declared.graph.CanonFunc.{CanonFunc}
 use Rattle.comp_graph.specs.declared.graph.Options.{Options}
 use Rattle.comp_graph.specs.Needs.{flat_param_limit}
 use Rattle.comp_graph.specs.Graph.{Graph, Lifted}
-use Rattle.trace_show.specs.declared.label.Label.{Label}
-use Rattle.trace_show.specs.declared.label.Label.TheVariants as line
-use Rattle.trace_show.specs.declared.trap.TrapName.{TrapName}
-use Rattle.trace_show.specs.declared.trap.TrapName.TheVariants as trap
+use Rattle.trace_labels.specs.declared.label.Label.{Label}
+use Rattle.trace_labels.specs.declared.label.Label.TheVariants as line
+use Rattle.trace_labels.specs.declared.trap.TrapName.{TrapName}
+use Rattle.trace_labels.specs.declared.trap.TrapName.TheVariants as trap
 use Rattle.abi_machine.specs.SameTypes.{same_held}
 use Rattle.abi_machine.specs.Control.{EndRef, Replies, Finishes}
 use Rattle.abi_machine.specs.World.{Task, Channel, World, new_channel}

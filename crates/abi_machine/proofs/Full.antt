@@ -4,7 +4,7 @@ use Rattle.std.specs.Prelude.{nat_lt, count_by, if◌then◌else◌}
 use Rattle.handle_table.specs.History.{Add, without, next_in, live, greatest, freed, next_index, slots_up_to, live_count, most_live}
 use Rattle.handle_table.proofs.Histories.{same_slots, event_same, event_other}
 use Rattle.handle_table.proofs.Places.{count_push}
-use Rattle.trace_show.specs.declared.trap.TrapName.TheVariants as trap
+use Rattle.trace_labels.specs.declared.trap.TrapName.TheVariants as trap
 use Rattle.abi_machine.specs.World.{Entry, OfSet, World}
 use Rattle.abi_machine.specs.Turn.{replied, doomed}
 use Rattle.abi_machine.specs.replies.Waiting.{set_new_turn}

@@ -6,8 +6,8 @@ use Rattle.std.proofs.lemmas.Grind.{flat_map-append}
 use Rattle.comp_graph.specs.declared.graph.FuncRef.TheVariants as func_ref
 use Rattle.comp_graph.specs.Graph.{Graph, Lifted, no_options}
 use Rattle.script_reader.specs.Script.{Script}
-use Rattle.trace_show.specs.declared.label.Label.{Label}
-use Rattle.trace_show.specs.declared.dump.LiveEntry.{LiveEntry}
+use Rattle.trace_labels.specs.declared.label.Label.{Label}
+use Rattle.trace_labels.specs.declared.dump.LiveEntry.{LiveEntry}
 use Rattle.abi_machine.specs.declared.run_end.RunEnd.{RunEnd}
 use Rattle.abi_machine.specs.LoweringOver.{Plan}
 use Rattle.abi_machine.specs.Control.{Control, Lowering, Lowers, Starts}

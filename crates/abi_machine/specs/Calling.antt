@@ -4,10 +4,10 @@ use Rattle.std.specs.Prelude.{ℕ, ◌+◌, ◌*◌, Bool, true, false, if◌the
 use Rattle.tasks.specs.declared.subtask_state.SubtaskState.TheVariants.{Starting, Returned}
 use Rattle.tasks.specs.Subtasks.{code_of}
 use Rattle.comp_graph.specs.Graph.{Graph, Lifted}
-use Rattle.trace_show.specs.declared.label.BlockReason.TheVariants as reason
-use Rattle.trace_show.specs.declared.label.Label.{Label}
-use Rattle.trace_show.specs.declared.label.Label.TheVariants as line
-use Rattle.trace_show.specs.declared.trap.TrapName.TheVariants as trap
+use Rattle.trace_labels.specs.declared.label.BlockReason.TheVariants as reason
+use Rattle.trace_labels.specs.declared.label.Label.{Label}
+use Rattle.trace_labels.specs.declared.label.Label.TheVariants as line
+use Rattle.trace_labels.specs.declared.trap.TrapName.TheVariants as trap
 use Rattle.abi_machine.specs.Control.{Arrives}
 use Rattle.abi_machine.specs.World.{OfSubtask, Callee, Subtask, Caller, Guest, ForCall, Acting, AfterCall, InBuiltin, Task, World}
 use Rattle.abi_machine.specs.Edits.{with_control, task_made, chained, in_state, told}

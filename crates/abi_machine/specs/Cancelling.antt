@@ -7,8 +7,8 @@ use Rattle.tasks.specs.declared.phase.Cancellation.TheVariants as cancellation
 use Rattle.tasks.specs.declared.phase.Resolution.TheVariants.{Cancelled}
 use Rattle.tasks.specs.Tasks.{cancel_case}
 use Rattle.comp_graph.specs.Graph.{Graph}
-use Rattle.trace_show.specs.declared.label.BlockReason.TheVariants as reason
-use Rattle.trace_show.specs.declared.label.Label.TheVariants as line
+use Rattle.trace_labels.specs.declared.label.BlockReason.TheVariants as reason
+use Rattle.trace_labels.specs.declared.label.Label.TheVariants as line
 use Rattle.abi_machine.specs.Control.{Control, Goes}
 use Rattle.abi_machine.specs.World.{TaskState, Acting, AfterCall, AfterCancel, Exited, InBuiltin, ForCancel, Task, World}
 use Rattle.abi_machine.specs.Edits.{with_control, chained, in_state, resolved, with_cancellation}

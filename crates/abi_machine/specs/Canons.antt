@@ -37,8 +37,8 @@ use Rattle.comp_graph.specs.declared.graph.BuiltinKind.TheVariants as kind
 use Rattle.comp_graph.specs.declared.graph.CanonFunc.{CanonFunc}
 use Rattle.comp_graph.specs.declared.graph.CanonFunc.TheVariants as canon
 use Rattle.comp_graph.specs.Graph.{Graph, Lifted, no_options}
-use Rattle.trace_show.specs.declared.builtin.Builtin.{Builtin}
-use Rattle.trace_show.specs.declared.builtin.Builtin.TheVariants as builtin
+use Rattle.trace_labels.specs.declared.builtin.Builtin.{Builtin}
+use Rattle.trace_labels.specs.declared.builtin.Builtin.TheVariants as builtin
 
 -- Addresses. The core instance of number k has address k, and so has the canonical function of number k.
 abbrev pub address_in : (Instance → List ℕ) → Store → CoreRef → Option ℕ

@@ -2,7 +2,7 @@
 -- costs nothing.
 use Rattle.std.specs.Prelude.{ℕ, [], ◌∷◌}
 use Rattle.choices.specs.Drawing.{Drawn, drawn, drawn_answer}
-use Rattle.trace_show.specs.declared.label.Label.TheVariants as line
+use Rattle.trace_labels.specs.declared.label.Label.TheVariants as line
 use Rattle.script_reader.specs.Script.{Script}
 use Rattle.abi_machine.specs.Control.{Control}
 use Rattle.abi_machine.specs.World.{World}

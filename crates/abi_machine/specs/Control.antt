@@ -5,7 +5,7 @@ use Rattle.wasm_store.specs.Stack.{Stack}
 use Rattle.ca_types.specs.declared.value.Value.{Value}
 use Rattle.stream_ends.specs.declared.side.Side.{Side}
 use Rattle.builtin_kinds.specs.declared.EndKind.{EndKind}
-use Rattle.trace_show.specs.declared.trap.TrapName.{TrapName}
+use Rattle.trace_labels.specs.declared.trap.TrapName.{TrapName}
 use Rattle.abi_machine.specs.LoweringOver.{Plan}
 
 -- An end: the readable or writable one of a stream or a future, by its number, counted from 1.

@@ -19,8 +19,8 @@ use Rattle.entry_gate.specs.declared.callback.Next.TheVariants as next
 use Rattle.tasks.specs.declared.phase.Cancellation.TheVariants.{Delivered}
 use Rattle.tasks.specs.Tasks.{is_asked, is_cancellable}
 use Rattle.comp_graph.specs.Graph.{Graph, Lifted}
-use Rattle.trace_show.specs.declared.label.Label.{Label}
-use Rattle.trace_show.specs.declared.label.Label.TheVariants as line
+use Rattle.trace_labels.specs.declared.label.Label.{Label}
+use Rattle.trace_labels.specs.declared.label.Label.TheVariants as line
 use Rattle.script_reader.specs.Script.{Script}
 use Rattle.abi_machine.specs.Control.{EndRef, EventCode, NoEvent, SubtaskEvent, StreamRead, StreamWrite, FutureRead, FutureWrite, TaskCancelled, Receiver, InWait, InCallback, Runs, Delivers}
 use Rattle.abi_machine.specs.World.{Entry, OfSubtask, OfEnd, Wait, ForYield, ForSet, ForCall, ForCopy, ForCancel, TaskState, Acting, WaitsToEnter, InLoop, InBuiltin, Task, World}

@@ -6,8 +6,8 @@ use Rattle.ca_types.specs.declared.value.Value.{Value}
 use Rattle.ca_types.specs.declared.value.Value.TheViews as value
 use Rattle.comp_graph.specs.declared.graph.CanonFunc.{CanonFunc}
 use Rattle.comp_graph.specs.Graph.{Graph, Lifted}
-use Rattle.trace_show.specs.declared.label.BlockReason.TheVariants as reason
-use Rattle.trace_show.specs.declared.label.Label.TheVariants as line
+use Rattle.trace_labels.specs.declared.label.BlockReason.TheVariants as reason
+use Rattle.trace_labels.specs.declared.label.Label.TheVariants as line
 use Rattle.abi_machine.specs.Control.{Starts, Lowering, Lowers}
 use Rattle.abi_machine.specs.World.{Subtask, Caller, Nobody, Host, Guest, Acting, WaitsToEnter, Task, World}
 use Rattle.abi_machine.specs.Edits.{in_state}

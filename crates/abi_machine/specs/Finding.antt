@@ -7,8 +7,8 @@ use Rattle.ca_types.specs.declared.types.ValType.{ValType}
 use Rattle.stream_ends.specs.declared.side.Side.{Side}
 use Rattle.stream_ends.specs.declared.side.Side.TheVariants.{Reader, Writer}
 use Rattle.abi_machine.specs.SameTypes.{same_held}
-use Rattle.trace_show.specs.declared.trap.TrapName.{TrapName}
-use Rattle.trace_show.specs.declared.trap.TrapName.TheVariants as trap
+use Rattle.trace_labels.specs.declared.trap.TrapName.{TrapName}
+use Rattle.trace_labels.specs.declared.trap.TrapName.TheVariants as trap
 use Rattle.abi_machine.specs.Control.{EndRef}
 use Rattle.abi_machine.specs.World.{Entry, OfSubtask, OfSet, OfEnd, World}
 use Rattle.abi_machine.specs.Reading.{entry_at, channel_at}

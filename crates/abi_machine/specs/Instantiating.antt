@@ -9,7 +9,7 @@ use Rattle.wasm_store.specs.Instantiation as core
 use Rattle.comp_graph.specs.declared.graph.Action.{Action}
 use Rattle.comp_graph.specs.declared.graph.Action.TheVariants.{Begin, Make}
 use Rattle.comp_graph.specs.Graph.{CoreMake, Graph}
-use Rattle.trace_show.specs.declared.trap.TrapName.TheVariants as trap
+use Rattle.trace_labels.specs.declared.trap.TrapName.TheVariants as trap
 use Rattle.abi_machine.specs.Control.{Free, Instantiates, Runs}
 use Rattle.abi_machine.specs.World.{Begins, Exited, World}
 use Rattle.abi_machine.specs.Edits.{with_store, instance_begun, unchained, in_state, stacked}

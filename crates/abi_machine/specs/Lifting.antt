@@ -13,9 +13,9 @@ use Rattle.res_handles.specs.declared.refusal.Refusal.{Refusal}
 use Rattle.res_handles.specs.declared.refusal.Refusal.TheVariants.{Absent, OtherKind}
 use Rattle.res_handles.specs.Refusals.{handle_in, own_in}
 use Rattle.res_handles.specs.Ends.{end_of}
-use Rattle.trace_show.specs.declared.label.Label.{Label}
-use Rattle.trace_show.specs.declared.label.Label.TheVariants as line
-use Rattle.trace_show.specs.declared.trap.TrapName.{TrapName}
+use Rattle.trace_labels.specs.declared.label.Label.{Label}
+use Rattle.trace_labels.specs.declared.label.Label.TheVariants as line
+use Rattle.trace_labels.specs.declared.trap.TrapName.{TrapName}
 use Rattle.abi_machine.specs.LiftingOver.{What, AnOwn, ABorrow, AnEnd, Ledger}
 use Rattle.abi_machine.specs.LiftingOver as over
 use Rattle.abi_machine.specs.World.{World}

@@ -12,8 +12,8 @@ use Rattle.waitables.specs.Sets.{is_none}
 use Rattle.tasks.specs.Tasks.{is_asked, is_cancellable, may_cancel}
 use Rattle.stream_ends.specs.Ends.{is_pending}
 use Rattle.comp_graph.specs.Graph.{Graph, Lifted, func_named}
-use Rattle.trace_show.specs.declared.label.Label.TheVariants as line
-use Rattle.trace_show.specs.declared.typed.TypedValue.{TypedValue}
+use Rattle.trace_labels.specs.declared.label.Label.TheVariants as line
+use Rattle.trace_labels.specs.declared.typed.TypedValue.{TypedValue}
 use Rattle.abi_machine.specs.declared.run_end.RunEnd.{RunEnd}
 use Rattle.abi_machine.specs.declared.run_end.RunEnd.TheVariants.{Done, Deadlock}
 use Rattle.script_reader.specs.declared.script.Call.{Call}

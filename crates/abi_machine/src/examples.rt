@@ -3,7 +3,7 @@
 
 ghost use Rattle.std.specs.Prelude.{[], ◌∷◌};
 ghost use Rattle.abi_machine.specs.declared.run_end.RunEnd.TheVariants.{Deadlock, Done, Trapped};
-ghost use Rattle.trace_show.specs.declared.trap.TrapName.TheVariants as trap;
+ghost use Rattle.trace_labels.specs.declared.trap.TrapName.TheVariants as trap;
 ghost use Rattle.abi_machine.specs.examples.Parts.{Leaves, Shows, one_call};
 ghost use Rattle.abi_machine.specs.examples.Backpressure as backpressure;
 ghost use Rattle.abi_machine.specs.examples.Cancelling as cancelling;

@@ -19,9 +19,9 @@ use Rattle.comp_graph.specs.declared.graph.CanonFunc.{CanonFunc}
 use Rattle.comp_graph.specs.declared.graph.CanonFunc.TheVariants as canon_func
 use Rattle.comp_graph.specs.Graph.{CoreMake, Graph, no_options}
 use Rattle.link_spec.proofs.Holding.{all_weaker, if_weaker}
-use Rattle.canonical_machine.specs.Reading as sync_reading
-use Rattle.canonical_machine.specs.Sound as sync_sound
-use Rattle.canonical_machine.specs.Owners as sync
+use Rattle.world.specs.Reading as sync_reading
+use Rattle.world.specs.Sound as sync_sound
+use Rattle.world.specs.Owners as sync
 use Rattle.abi_machine.specs.Canons.{inst_of_canon, options_of_end, options_of_kind}
 use Rattle.abi_machine.specs.sound.Owners.{owner_of_func, owner_of_extern, AreOptionsOf, IsLiftApart, IsCanonApart, IsResourceApart, Makes}
 use Rattle.graph_laws.proofs.Owning.{OwnsOptions, OwnsLift, OwnsEnd, OwnsKind, OwnsCanon, OwnsDestructor, AreImportsOf, IsOwnGraph}

@@ -9,8 +9,8 @@ use Rattle.script_reader.specs.Script.{Script}
 use Rattle.link_spec.specs.Standing.{StandsIn}
 use Rattle.link_spec.specs.Laws.{ModulesStand}
 use Rattle.link_spec.proofs.Holding.{all_weaker}
-use Rattle.canonical_machine.specs.Sound.{HasBytes}
-use Rattle.canonical_machine.specs.Values.{AllInRange}
+use Rattle.lowering_laws.specs.StoreBytes.{HasBytes}
+use Rattle.lowering_laws.specs.Values.{AllInRange}
 use Rattle.abi_machine.specs.sound.Scripts.{IsScriptFor}
 use Rattle.abi_machine.specs.sound.TypedSteps.{PassesTyped}
 use Rattle.graph_laws.specs.Laws.{ReadDataAreBytes, ReadTypesAreLabelled, ReadScriptsPassInRange}

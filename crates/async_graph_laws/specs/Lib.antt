@@ -1,4 +1,6 @@
 pub mod Ends
 pub mod Laws
+pub mod Plans
 pub mod ReadRuns
+pub mod ReadWorlds
 pub mod Examples

@@ -2,13 +2,13 @@
 -- and of each script that is read for it, in each world that the machine reaches a step or the end of the run comes next, and one alone; and there is
 -- exactly one run.
 use Rattle.std.specs.Prelude.{ℕ, List}
-use Rattle.trace_show.specs.declared.label.Label.{Label}
+use Rattle.trace_labels.specs.declared.label.Label.{Label}
 use Rattle.comp_tree.specs.declared.items.Component.{Component}
 use Rattle.comp_reader.specs.Binary.{IsComponent}
 use Rattle.comp_graph.specs.Graph.{Graph}
 use Rattle.script_reader.specs.Script.{Script, IsScript}
 use Rattle.link_spec.specs.Linked.{IsLinked}
-use Rattle.canonical_machine.specs.Sound.{AreBytes}
+use Rattle.lowering_laws.specs.Values.{AreBytes}
 use Rattle.abi_machine.specs.World.{World, first_world}
 use Rattle.abi_machine.specs.Next.{next}
 use Rattle.abi_machine.specs.Run.{Reaches}

@@ -1,14 +1,19 @@
 //! What the laws of asynchronous calls ask of a graph holds of every linked one.
 
 ghost use Rattle.async_graph_laws.specs.Laws.{LinkedDefinitionsAreApart, LinkedGraphsAreTyped, ReadGraphsAreTyped, LinkedGraphsAreUsed, LinkedGraphsTellEnds, LinkedGraphsPassNoBorrow, CallsAreForGraphs, ReadScriptsAreForGraphs};
+ghost use Rattle.async_graph_laws.specs.Plans.{LinkedInstancesBegin, LinkedMakesFollow};
 ghost use Rattle.async_graph_laws.specs.ReadRuns.{ReadRunsAreRunnable, ReadRunsHaveOneNext, NoReadRunIsStuck, ReadRunsAreOne};
+ghost use Rattle.async_graph_laws.specs.ReadWorlds.{ReadWorldsAreKnown};
 
 use graph_laws::laws::{
     read_data_are_bytes, read_modules_are_typed, read_scripts_pass_in_range,
     read_types_are_labelled,
 };
 use link_spec::laws::graphs_are_sound;
-use reach_laws::{exactly_one_next, one_run_comes, scripts_pass_typed};
+use reach_laws::{
+    calls_are_known, copies_are_known, ends_are_known, exactly_one_next, one_run_comes,
+    read_scripts_pass_no_handles, scripts_pass_typed,
+};
 use script_reader::scripts_call_exports;
 
 /// In a linked graph what a core instance imports, the core function of a lift, a destructor, and what the options of canonical definitions give,
@@ -54,6 +59,13 @@ pub fn linked_graphs_pass_no_borrow()
     graphs_are_sound();
 }
 
+/// The plan of a linked graph begins the component instances that its functions and canonical functions name, and that of each core instance before it makes
+/// this one.
+pub fn linked_plans_begin()
+    ensures begins { LinkedInstancesBegin }
+    ensures follow { LinkedMakesFollow }
+{}
+
 /// The graph to which a component file is read and linked, and a script that is read for what it exports, are what the laws of reached worlds ask
 /// for: so each of these laws holds of every file and every text that is read so.
 pub fn read_runs_are_runnable()
@@ -79,4 +91,16 @@ pub fn read_runs_have_one_next()
     read_runs_are_runnable();
     exactly_one_next();
     one_run_comes();
+}
+
+/// Of each component file that is read and linked, and each script that is read for it: in each world that the machine reaches a subtask was called from the
+/// instance in whose table it stands and runs in another one, an end stands once and was not dropped, and the task of a copy whose call waits waits for it.
+pub fn read_worlds_are_known()
+    ensures { ReadWorldsAreKnown }
+{
+    linked_definitions_are_apart();
+    read_scripts_pass_no_handles();
+    calls_are_known();
+    ends_are_known();
+    copies_are_known();
 }

@@ -23,4 +23,6 @@ pub mod ToldFirst
 pub mod ToldNext
 pub mod ToldWhenFree
 pub mod WaitWaits
+pub mod WaitEnded
+pub mod WaitRefused
 pub mod WordKept

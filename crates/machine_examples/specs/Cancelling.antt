@@ -12,15 +12,15 @@ use Rattle.comp_graph.specs.declared.graph.EndOp.TheVariants as end
 use Rattle.comp_graph.specs.Graph.{Graph, no_options}
 use Rattle.script_reader.specs.declared.script.Item.TheVariants.{Cancel}
 use Rattle.script_reader.specs.Script.{Script}
-use Rattle.trace_show.specs.declared.builtin.Builtin.TheVariants as builtin
-use Rattle.trace_show.specs.declared.dump.Entry.TheVariants as entry
-use Rattle.trace_show.specs.declared.dump.EndState.TheVariants.{Done}
-use Rattle.trace_show.specs.declared.dump.LiveEntry.{LiveEntry}
-use Rattle.trace_show.specs.declared.dump.Side.TheVariants as side
-use Rattle.trace_show.specs.declared.label.BlockReason.TheVariants as reason
-use Rattle.trace_show.specs.declared.label.Channel.TheVariants as channel
-use Rattle.trace_show.specs.declared.label.Label.{Label}
-use Rattle.trace_show.specs.declared.label.Label.TheVariants as line
+use Rattle.trace_labels.specs.declared.builtin.Builtin.TheVariants as builtin
+use Rattle.trace_labels.specs.declared.dump.Entry.TheVariants as entry
+use Rattle.trace_labels.specs.declared.dump.EndState.TheVariants.{Done}
+use Rattle.trace_labels.specs.declared.dump.LiveEntry.{LiveEntry}
+use Rattle.trace_labels.specs.declared.dump.Side.TheVariants as side
+use Rattle.trace_labels.specs.declared.label.BlockReason.TheVariants as reason
+use Rattle.trace_labels.specs.declared.label.Channel.TheVariants as channel
+use Rattle.trace_labels.specs.declared.label.Label.{Label}
+use Rattle.trace_labels.specs.declared.label.Label.TheVariants as line
 use Rattle.abi_machine.specs.World.{World}
 use Rattle.abi_machine.specs.examples.Parts.{of_nothing, words, to_both, own, number, calls, asks, builtin as made_by, plain, task_return, ends, core_at, asynchronous, callback, lift, graph_of, exported, store_of, instantiated, run_name, script_of, call}
 
@@ -105,6 +105,26 @@ abbrev pub told_when_free : List Label
 told_when_free =
     line.Take 1 1 turns_name [] ∷ line.Enter 1 ∷ line.Block 1 reason.Yield
     ∷ line.Choose 2 0 ∷ line.Take 2 2 holds_name [] ∷ line.Enter 2 ∷ line.Do 2 builtin.Yield [] ∷ line.Block 2 reason.Yield
+    ∷ line.Choose 2 0 ∷ line.Cancel 1
+    ∷ line.Go 2 ∷ line.Got 2 (0 ∷ []) ∷ line.Return 2 None ∷ line.Exit 2
+    ∷ line.Go 1 ∷ line.Event 1 6 0 0 ∷ line.Do 1 builtin.TaskCancel [] ∷ line.Cancelled 1 ∷ line.Got 1 [] ∷ line.Exit 1 ∷ []
+
+-- So it is told where it waits on a set in which no member is ready: its wait is over once entry is free.
+abbrev pub held_wait : Graph
+held_wait =
+    graph_of 1 (plain 0 (op.Yield false) ∷ plain 0 op.TaskCancel ∷ plain 0 op.WaitableSetNew ∷ []) [] (exported turns_name of_nothing ∷ exported holds_name of_nothing ∷ [])
+    (lift 0 3 (callback 0 4) ∷ lift 0 5 no_options ∷ [])
+
+abbrev pub held_wait_world : World
+held_wait_world =
+    instantiated 1
+    (store_of (words 0 1 ∷ words 0 0 ∷ words 0 1 ∷ [])
+    (own 0 (words 0 1) (asks 2 [] (number 18 End)) ∷ own 0 (words 3 1) (calls 1 [] (number 0 End)) ∷ own 0 (words 0 0) (asks 0 [] End) ∷ []) ([] ∷ []))
+
+abbrev pub wait_ended_when_free : List Label
+wait_ended_when_free =
+    line.Take 1 1 turns_name [] ∷ line.Enter 1 ∷ line.Do 1 builtin.WaitableSetNew [] ∷ line.Got 1 (1 ∷ []) ∷ line.Block 1 (reason.Wait 1)
+    ∷ line.Take 2 2 holds_name [] ∷ line.Enter 2 ∷ line.Do 2 builtin.Yield [] ∷ line.Block 2 reason.Yield
     ∷ line.Choose 2 0 ∷ line.Cancel 1
     ∷ line.Go 2 ∷ line.Got 2 (0 ∷ []) ∷ line.Return 2 None ∷ line.Exit 2
     ∷ line.Go 1 ∷ line.Event 1 6 0 0 ∷ line.Do 1 builtin.TaskCancel [] ∷ line.Cancelled 1 ∷ line.Got 1 [] ∷ line.Exit 1 ∷ []

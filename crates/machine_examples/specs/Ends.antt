@@ -10,16 +10,16 @@ use Rattle.comp_graph.specs.declared.graph.CanonFunc.{CanonFunc}
 use Rattle.comp_graph.specs.declared.graph.EndOp.TheVariants as end
 use Rattle.comp_graph.specs.Graph.{Graph, no_options}
 use Rattle.script_reader.specs.Script.{Script}
-use Rattle.trace_show.specs.declared.builtin.Builtin.TheVariants as builtin
-use Rattle.trace_show.specs.declared.dump.Entry.TheVariants as entry
-use Rattle.trace_show.specs.declared.dump.EndState.TheVariants.{Idle}
-use Rattle.trace_show.specs.declared.dump.LiveEntry.{LiveEntry}
-use Rattle.trace_show.specs.declared.dump.Side.TheVariants as side
-use Rattle.trace_show.specs.declared.label.BlockReason.TheVariants as reason
-use Rattle.trace_show.specs.declared.label.Channel.TheVariants as channel
-use Rattle.trace_show.specs.declared.label.Copied.TheVariants.{Units}
-use Rattle.trace_show.specs.declared.label.Label.{Label}
-use Rattle.trace_show.specs.declared.label.Label.TheVariants as line
+use Rattle.trace_labels.specs.declared.builtin.Builtin.TheVariants as builtin
+use Rattle.trace_labels.specs.declared.dump.Entry.TheVariants as entry
+use Rattle.trace_labels.specs.declared.dump.EndState.TheVariants.{Idle}
+use Rattle.trace_labels.specs.declared.dump.LiveEntry.{LiveEntry}
+use Rattle.trace_labels.specs.declared.dump.Side.TheVariants as side
+use Rattle.trace_labels.specs.declared.label.BlockReason.TheVariants as reason
+use Rattle.trace_labels.specs.declared.label.Channel.TheVariants as channel
+use Rattle.trace_labels.specs.declared.label.Copied.TheVariants.{Units}
+use Rattle.trace_labels.specs.declared.label.Label.{Label}
+use Rattle.trace_labels.specs.declared.label.Label.TheVariants as line
 use Rattle.abi_machine.specs.World.{World}
 use Rattle.abi_machine.specs.examples.Parts.{of_nothing, words, to_both, own, calls, asks, plain, wait, task_return, ends, core_at, asynchronous, lift, graph_of, exported, store_of, instantiated, acting, script_of, call}
 

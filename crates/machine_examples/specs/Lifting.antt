@@ -1,8 +1,8 @@
 -- What liftings leave (Component Model, CanonicalABI.md, `lift_own`, `lift_borrow`; "Subtask State"), where the second of two arguments is
 -- refused: task 1 has one handle and passes it twice.
 use Rattle.std.specs.Prelude.{ℕ, List, [], ◌∷◌}
-use Rattle.trace_show.specs.declared.dump.Entry.TheVariants as entry
-use Rattle.trace_show.specs.declared.dump.LiveEntry.{LiveEntry}
+use Rattle.trace_labels.specs.declared.dump.Entry.TheVariants as entry
+use Rattle.trace_labels.specs.declared.dump.LiveEntry.{LiveEntry}
 
 -- It was lent first, and stays lent;
 abbrev pub still_lent : List (List LiveEntry)

@@ -5,10 +5,10 @@ use Rattle.wasm_module.specs.Expr.{End}
 use Rattle.builtin_kinds.specs.declared.PlainBuiltin.TheVariants as op
 use Rattle.comp_graph.specs.Graph.{Graph}
 use Rattle.script_reader.specs.Script.{Script}
-use Rattle.trace_show.specs.declared.builtin.Builtin.TheVariants as builtin
-use Rattle.trace_show.specs.declared.label.BlockReason.TheVariants as reason
-use Rattle.trace_show.specs.declared.label.Label.{Label}
-use Rattle.trace_show.specs.declared.label.Label.TheVariants as line
+use Rattle.trace_labels.specs.declared.builtin.Builtin.TheVariants as builtin
+use Rattle.trace_labels.specs.declared.label.BlockReason.TheVariants as reason
+use Rattle.trace_labels.specs.declared.label.Label.{Label}
+use Rattle.trace_labels.specs.declared.label.Label.TheVariants as line
 use Rattle.abi_machine.specs.World.{World, new_inst}
 use Rattle.abi_machine.specs.examples.Parts.{words, calls, plain, graph_of, store_of, instantiated, acting}
 use Rattle.abi_machine.specs.examples.Backpressure.{both_calls, hold_begins}

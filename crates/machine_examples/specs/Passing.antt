@@ -14,12 +14,12 @@ use Rattle.builtin_kinds.specs.declared.EndSide.TheVariants.{Readable, Writable}
 use Rattle.comp_graph.specs.declared.graph.CanonFunc.{CanonFunc}
 use Rattle.comp_graph.specs.declared.graph.EndOp.TheVariants as end
 use Rattle.comp_graph.specs.Graph.{Graph, no_options}
-use Rattle.trace_show.specs.declared.builtin.Builtin.TheVariants as builtin
-use Rattle.trace_show.specs.declared.label.BlockReason.TheVariants as reason
-use Rattle.trace_show.specs.declared.label.Channel.TheVariants as channel
-use Rattle.trace_show.specs.declared.label.Copied.TheVariants.{Values}
-use Rattle.trace_show.specs.declared.label.Label.{Label}
-use Rattle.trace_show.specs.declared.label.Label.TheVariants as line
+use Rattle.trace_labels.specs.declared.builtin.Builtin.TheVariants as builtin
+use Rattle.trace_labels.specs.declared.label.BlockReason.TheVariants as reason
+use Rattle.trace_labels.specs.declared.label.Channel.TheVariants as channel
+use Rattle.trace_labels.specs.declared.label.Copied.TheVariants.{Values}
+use Rattle.trace_labels.specs.declared.label.Label.{Label}
+use Rattle.trace_labels.specs.declared.label.Label.TheVariants as line
 use Rattle.abi_machine.specs.World.{World}
 use Rattle.abi_machine.specs.examples.Parts.{func_type, words, to_both, own, number, calls, asks, plain, context, resource, task_return, ends, lower, asynchronous, with_memory, with_realloc, lift, graph_of, store_of, instantiated, acting}
 use Rattle.abi_machine.specs.examples.Transfers.{two_texts, sync_read}

@@ -10,10 +10,10 @@ use Rattle.comp_graph.specs.declared.graph.Options.{Options}
 use Rattle.comp_graph.specs.declared.graph.CanonFunc.{CanonFunc}
 use Rattle.comp_graph.specs.Graph.{Graph, no_options}
 use Rattle.script_reader.specs.Script.{Script}
-use Rattle.trace_show.specs.declared.builtin.Builtin.TheVariants as builtin
-use Rattle.trace_show.specs.declared.label.BlockReason.TheVariants as reason
-use Rattle.trace_show.specs.declared.label.Label.{Label}
-use Rattle.trace_show.specs.declared.label.Label.TheVariants as line
+use Rattle.trace_labels.specs.declared.builtin.Builtin.TheVariants as builtin
+use Rattle.trace_labels.specs.declared.label.BlockReason.TheVariants as reason
+use Rattle.trace_labels.specs.declared.label.Label.{Label}
+use Rattle.trace_labels.specs.declared.label.Label.TheVariants as line
 use Rattle.abi_machine.specs.World.{World}
 use Rattle.abi_machine.specs.Turn.{replied}
 use Rattle.abi_machine.specs.replies.Waiting.{set_new_turn}
@@ -59,6 +59,16 @@ loop_waits = set_made ++ set_dropped
 
 abbrev pub wait_waits : List Label
 wait_waits = set_made ++ line.Do 1 builtin.WaitableSetWait (1 ∷ 0 ∷ []) ∷ set_dropped
+
+-- A wait on a set of this index, which puts its event at this place. Its memory has eight bytes.
+abbrev pub in_place : ℕ → ℕ → World
+in_place index place = waited_world (words 0 0) (asks 0 [] (asks 2 (index ∷ place ∷ []) End))
+
+abbrev pub one_wait : Script
+one_wait = script_of (call waits_name ∷ [])
+
+abbrev pub wait_refused : ℕ → ℕ → List Label
+wait_refused index place = set_made ++ line.Do 1 builtin.WaitableSetWait (index ∷ place ∷ []) ∷ []
 
 -- Of sets that are made one after the other, at most 65,535, each one gets the index that is one more.
 abbrev pub SetsAreCounted : Type 0

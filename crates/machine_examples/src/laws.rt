@@ -4,7 +4,7 @@
 ghost use Rattle.std.specs.Prelude.{[], ◌∷◌};
 ghost use Rattle.comp_graph.specs.Graph.{no_options};
 ghost use Rattle.abi_machine.specs.declared.run_end.RunEnd.TheVariants.{Done, Fuel, Trapped};
-ghost use Rattle.trace_show.specs.declared.trap.TrapName.TheVariants as trap;
+ghost use Rattle.trace_labels.specs.declared.trap.TrapName.TheVariants as trap;
 ghost use Rattle.abi_machine.specs.examples.Parts.{Leaves, Shows, asynchronous, callback, one_call};
 ghost use Rattle.abi_machine.specs.examples.Backpressure.{holding, holding_world};
 ghost use Rattle.abi_machine.specs.examples.Cancelling.{waiting, waiting_world};
@@ -29,9 +29,11 @@ pub fn synchronous_tasks_are_told_next()
     ensures { Shows cancelling.yields_twice cancelling.called_and_cancelled cancelling.yields_twice_world cancelling.told_next Done 7 }
 {}
 
-/// A task in its loop is told that its cancellation is asked once no other one holds exclusive entry.
+/// A task in its loop is told that its cancellation is asked once no other one holds exclusive entry, also where it waits on a set in which
+/// no member is ready: a cancellation that it is asked for while entry is held ends its wait then, and not at once.
 pub fn cancellations_wait_for_entry()
-    ensures { Shows cancelling.held_loop cancelling.held_and_cancelled cancelling.held_loop_world cancelling.told_when_free Done 10 }
+    ensures turns { Shows cancelling.held_loop cancelling.held_and_cancelled cancelling.held_loop_world cancelling.told_when_free Done 10 }
+    ensures waits { Shows cancelling.held_wait cancelling.held_and_cancelled cancelling.held_wait_world cancelling.wait_ended_when_free Done 12 }
 {}
 
 /// A task that has returned is not asked to come to an end.
@@ -84,6 +86,14 @@ pub fn dropped_ends_leave_their_set()
 pub fn sets_wait_for_their_waiters()
     ensures in_loop { Shows (sets.waited (callback 0 4)) sets.wait_and_drop sets.in_loop sets.loop_waits (Trapped 2 trap.Waiters) 7 }
     ensures in_wait { Shows (sets.waited asynchronous) sets.wait_and_drop sets.in_wait sets.wait_waits (Trapped 2 trap.Waiters) 9 }
+{}
+
+/// A wait looks for its set first. Then it tests that the place of its event is aligned, and then that it is in the memory: a place that
+/// is neither is misaligned.
+pub fn waits_test_their_place()
+    ensures set { Shows (sets.waited asynchronous) sets.one_wait (sets.in_place 2 6) (sets.wait_refused 2 6) (Trapped 1 trap.Absent) 6 }
+    ensures both { Shows (sets.waited asynchronous) sets.one_wait (sets.in_place 1 6) (sets.wait_refused 1 6) (Trapped 1 trap.Misaligned) 6 }
+    ensures aligned { Shows (sets.waited asynchronous) sets.one_wait (sets.in_place 1 4) (sets.wait_refused 1 4) (Trapped 1 trap.Bounds) 6 }
 {}
 
 /// What a lifting that is refused has lent or taken before stays so.

@@ -14,5 +14,5 @@ pub use laws::{
     post_returns_stay_inside, reallocs_run_for_readers, refused_liftings_are_not_undone,
     results_are_lifted_first, returned_tasks_are_left_alone, sets_are_counted,
     sets_wait_for_their_waiters, subtasks_are_dropped_late, synchronous_tasks_are_told_next,
-    waited_copies_are_kept,
+    waited_copies_are_kept, waits_test_their_place,
 };

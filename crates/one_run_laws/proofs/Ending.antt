@@ -1,7 +1,7 @@
 -- Two runs from a world are one, where passing values comes to one thing.
 use Rattle.std.proofs.Common.{◌≡◌, ◌∙◌, ℕ, zero, suc, List, [], ◌++◌, append_assoc, append-nil, refl, sym, ap, subst, Option, Some, None, inl, inr}
 use Rattle.programs.specs.declared.program.Program.{Program}
-use Rattle.trace_show.specs.declared.label.Label.{Label}
+use Rattle.trace_labels.specs.declared.label.Label.{Label}
 use Rattle.world_parts.specs.declared.parts.Flow.{Flow}
 use Rattle.world_parts.specs.Held.{Held, Done, Gives, Traps, Spent, Stuck}
 use Rattle.world_stacks.specs.Views.{PileView}

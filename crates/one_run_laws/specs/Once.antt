@@ -4,7 +4,7 @@
 use Rattle.std.specs.Prelude.{◌≡◌, List, ◌++◌}
 use Rattle.laid_types.specs.SameTypes.{AreDistinct}
 use Rattle.programs.specs.declared.program.Program.{Program}
-use Rattle.trace_show.specs.declared.label.Label.{Label}
+use Rattle.trace_labels.specs.declared.label.Label.{Label}
 use Rattle.world_parts.specs.declared.parts.Flow.{Flow}
 use Rattle.world_parts.specs.Held.{Held, Done}
 use Rattle.value_parts.specs.declared.to_pass.Passing.{Passing}

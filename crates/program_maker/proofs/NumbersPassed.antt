@@ -12,7 +12,6 @@ use Rattle.comp_graph.specs.declared.graph.EndOp.{EndOp}
 use Rattle.comp_graph.specs.Graph.{ends_type, numbered_value, passed_value}
 use Rattle.comp_graph.specs.Passed.{TypeTable, MayBeAt, HasCanonType}
 use Rattle.comp_graph.proofs.FuncsPassed.{element_read}
-use Rattle.program_maker.specs.Programs.{NamesEnds}
 
 -- The elements of ends are the one part of their type.
 pub ends_pass : (values : List ValType) (number found : Option ℕ) (kind : BuiltinKind) (of : EndKind) (element : Option ValType) (op : EndOp) → MayBeAt values number (numbered_value kind) → kind ≡ builtin.End of element op
@@ -20,11 +19,3 @@ pub ends_pass : (values : List ValType) (number found : Option ℕ) (kind : Buil
 ends_pass values number found kind of element op h is told =
     subst (λ (k : BuiltinKind). MayBeAt values found (passed_value k)) (sym is)
     (subst (MayBeAt values found) (element_read of element op) (told (ends_type of element) (subst (λ (k : BuiltinKind). MayBeAt values number (numbered_value k)) is h)))
-
--- The numbers of canonical functions name the types of ends.
-pub names_ends : (types : TypeTable) (numbers : List (Option ℕ)) (canons : List CanonFunc) → AllZip (HasCanonType types) numbers canons → AllZip (NamesEnds types.values) numbers canons
-names_ends types [] [] h = tt
-names_ends types [] (c ∷ canons) h = absurd h
-names_ends types (n ∷ numbers) [] h = absurd h
-names_ends types (n ∷ numbers) (canon_func.Lower l ∷ canons) h = (tt, names_ends types numbers canons h.1)
-names_ends types (n ∷ numbers) (canon_func.Builtin b ∷ canons) h = (h.0, names_ends types numbers canons h.1)

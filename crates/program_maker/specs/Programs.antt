@@ -12,8 +12,8 @@ use Rattle.laid_types.specs.SameTypes.{AreDistinct}
 use Rattle.comp_graph.specs.declared.graph.CanonFunc.{CanonFunc}
 use Rattle.comp_graph.specs.declared.graph.CanonFunc.TheVariants as canon
 use Rattle.comp_graph.specs.declared.graph.Resource.{Resource}
-use Rattle.comp_graph.specs.Graph.{Graph, names, passed_value, numbered_value}
-use Rattle.comp_graph.specs.Passed.{params_type, MayBeAt}
+use Rattle.comp_graph.specs.Graph.{Graph, names, passed_value}
+use Rattle.comp_graph.specs.Passed.{params_type, MayBeAt, AreCanonTypes}
 use Rattle.script_reader.specs.declared.script.Item.{Item}
 use Rattle.script_reader.specs.declared.script.Item.TheVariants as item
 use Rattle.script_reader.specs.Script.{Script}
@@ -32,14 +32,10 @@ PassesCanon values (Some numbers) (canon.Lower l) = PassesFunc values numbers l.
 PassesCanon values None (canon.Lower l) = ⊥
 PassesCanon values numbers (canon.Builtin b) = numbers ≡ None
 
--- The number of the type of the result or of the elements of a built-in, where it has one; and that of the type of its result or of its ends.
+-- The number of the type of the result or of the elements of a built-in, where it has one.
 abbrev pub PassesValue : List ValType → Option ℕ → CanonFunc → Type 0
 PassesValue values number (canon.Lower l) = number ≡ None
 PassesValue values number (canon.Builtin b) = MayBeAt values number (passed_value b.kind)
-
-abbrev pub NamesEnds : List ValType → Option ℕ → CanonFunc → Type 0
-NamesEnds values number (canon.Lower l) = Unit {0}
-NamesEnds values number (canon.Builtin b) = MayBeAt values number (numbered_value b.kind)
 
 -- The script's calls, each with the number of its item, counted from this one, and that of the first export of its name.
 abbrev pub call_numbers : List Export → ℕ → List Item → List CallNumbers
@@ -61,6 +57,7 @@ pub record AreDefined (instances : ℕ) (resources : List Resource) (all : List 
   pub count : length all ≡ instances
   pub each : (instance : ℕ) (numbers : List ℕ) → slice_get all instance ≡ Some numbers → numbers ≡ defined_by instance 0 resources
 
+-- The numbers that canonical functions have in the graph name types of some list of types of functions, and types of values: of results, and of ends.
 pub record IsProgram (g : Graph) (s : Script) (p : Program) : Type 0 where
   pub graph : p.graph.now ≡ g
   pub script : p.script.now ≡ s
@@ -68,6 +65,7 @@ pub record IsProgram (g : Graph) (s : Script) (p : Program) : Type 0 where
   pub exports : AllZip (λ (numbers : FuncNumbers) (e : Export). PassesFunc p.types.now numbers e.func_type) p.exports.items g.exports
   pub canons : AllZip (PassesCanon p.types.now) p.canons.items g.canons
   pub values : AllZip (PassesValue p.types.now) p.values.items g.canons
-  pub ends : AllZip (NamesEnds p.types.now) p.ends.now g.canons
+  pub funcs : List FuncType
+  pub ends : AreCanonTypes (record { funcs = funcs; values = p.types.now }) p.ends.now g.canons
   pub calls : p.calls.items ≡ call_numbers g.exports 0 s.items
   pub resources : AreDefined g.instance_count g.resources p.resources.items

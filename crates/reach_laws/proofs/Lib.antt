@@ -10,3 +10,4 @@ mod Told
 mod ScriptsRead
 mod free
 mod OneRun
+pub mod known

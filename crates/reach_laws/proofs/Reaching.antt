@@ -3,8 +3,8 @@ use Rattle.std.proofs.Common.{◌≡◌, ◌∙◌, ◌≤◌, ◌⊎◌, inl, i
 use Rattle.std.specs.List.{slice_get, AllByRecursion}
 use Rattle.comp_graph.specs.Graph.{Graph}
 use Rattle.script_reader.specs.Script.{Script}
-use Rattle.trace_show.specs.declared.label.Label.{Label}
-use Rattle.canonical_machine.specs.Kept.{HasBytesAlone}
+use Rattle.trace_labels.specs.declared.label.Label.{Label}
+use Rattle.lowering_laws.specs.StoreBytes.{HasBytesAlone}
 use Rattle.abi_machine.specs.Control.{Control, Free, Chosen, Instantiates, Runs, Calls, Arrives, Lowers, Quiet, Back, Goes, Resumes, Delivers, Leaves, Doomed}
 use Rattle.abi_machine.specs.World.{TaskState, New, Acting, AfterCall, AfterCancel, Begins, WaitsToEnter, InLoop, InBuiltin, Exited, Task, World, first_world}
 use Rattle.abi_machine.specs.Reading.{acting, has_exited, is_instantiated}

@@ -10,10 +10,10 @@ use Rattle.wasm_store.specs.Store.{Table, Instance, Store, table_at}
 use Rattle.wasm_store.specs.Instantiation.{External, new_memory, allocated, into_table, element_written, data_written, init_value, Instantiation, Makes, SegmentBounds, all_written, instance_of, instantiated}
 use Rattle.wasm_store.specs.Laws.{AddedTyped}
 use Rattle.wasm_store.proofs.Lists.{all_append}
-use Rattle.canonical_machine.specs.Kept.{HasBytesAlone}
-use Rattle.canonical_machine.specs.Sound.{AreBytes, HasBytes}
-use Rattle.canonical_machine.proofs.Bytes.{zeros_are_bytes}
-use Rattle.canonical_machine.proofs.Made.{LeavesWith, written_leaves, bytes_keep}
+use Rattle.lowering_laws.specs.StoreBytes.{HasBytesAlone, HasBytes}
+use Rattle.lowering_laws.specs.Values.{AreBytes}
+use Rattle.lowering_laws.proofs.Bytes.{zeros_are_bytes}
+use Rattle.lowering_laws.proofs.Segments.{LeavesWith, written_leaves, bytes_keep}
 use Rattle.abi_machine.proofs.sound.Found.{some_same}
 use Rattle.reach_laws.proofs.growing.Stores.{IsOn}
 

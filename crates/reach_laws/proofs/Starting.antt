@@ -14,10 +14,9 @@ use Rattle.comp_graph.specs.declared.graph.Action.{Action}
 use Rattle.comp_graph.specs.declared.graph.Action.TheVariants.{Begin, Make}
 use Rattle.comp_graph.specs.Graph.{CoreMake, Graph}
 use Rattle.script_reader.specs.Script.{Script}
-use Rattle.trace_show.specs.declared.label.Label.{Label}
-use Rattle.canonical_machine.specs.Kept.{HasBytesAlone}
-use Rattle.canonical_machine.specs.Sound.{HasBytes}
-use Rattle.canonical_machine.proofs.Made.{LeavesWith}
+use Rattle.trace_labels.specs.declared.label.Label.{Label}
+use Rattle.lowering_laws.specs.StoreBytes.{HasBytesAlone, HasBytes}
+use Rattle.lowering_laws.proofs.Segments.{LeavesWith}
 use Rattle.abi_machine.specs.Control.{Control, Free, Chosen, Instantiates, Runs, Calls, Arrives, Lowers, Quiet, Back, Goes, Resumes, Delivers, Leaves as LeavesNow, Doomed}
 use Rattle.abi_machine.specs.World.{Inst, Init, Caller, TaskState, New, Acting, AfterCall, AfterCancel, Begins, WaitsToEnter, InLoop, InBuiltin, Exited, Task, World, new_inst}
 use Rattle.abi_machine.specs.Edits.{changed_at, with_control, with_store, in_state}

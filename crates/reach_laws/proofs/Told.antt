@@ -2,8 +2,8 @@
 use Rattle.std.proofs.Common.{◌≡◌, ◌∙◌, ◌⊎◌, inl, inr, List, [], ◌∷◌, refl, sym, subst}
 use Rattle.comp_graph.specs.Graph.{Graph}
 use Rattle.script_reader.specs.Script.{Script}
-use Rattle.trace_show.specs.declared.label.Label.{Label}
-use Rattle.canonical_machine.specs.Kept.{HasBytesAlone}
+use Rattle.trace_labels.specs.declared.label.Label.{Label}
+use Rattle.lowering_laws.specs.StoreBytes.{HasBytesAlone}
 use Rattle.abi_machine.specs.Control.{Control, Free, Chosen, Instantiates, Runs, Calls, Arrives, Lowers, Quiet, Back, Goes, Resumes, Delivers, Leaves, Doomed}
 use Rattle.abi_machine.specs.World.{World, first_world}
 use Rattle.abi_machine.specs.Edits.{with_control}

@@ -3,8 +3,8 @@
 use Rattle.std.specs.Prelude.{◌≡◌, ◌⊎◌, true, false, List}
 use Rattle.comp_graph.specs.Graph.{Graph}
 use Rattle.script_reader.specs.Script.{Script}
-use Rattle.trace_show.specs.declared.label.Label.{Label}
-use Rattle.canonical_machine.specs.Kept.{HasBytesAlone}
+use Rattle.trace_labels.specs.declared.label.Label.{Label}
+use Rattle.lowering_laws.specs.StoreBytes.{HasBytesAlone}
 use Rattle.abi_machine.specs.World.{World, first_world}
 use Rattle.abi_machine.specs.Reading.{acting, is_instantiated}
 use Rattle.abi_machine.specs.Turn.{Steps}

@@ -7,8 +7,8 @@ use Rattle.comp_graph.specs.Graph.{Graph}
 use Rattle.script_reader.specs.declared.script.Item.{Item}
 use Rattle.script_reader.specs.declared.script.Item.TheVariants as item
 use Rattle.script_reader.specs.Script.{Script}
-use Rattle.canonical_machine.specs.Sound.{HasBytes}
-use Rattle.canonical_machine.specs.Values.{AllInRange}
+use Rattle.lowering_laws.specs.StoreBytes.{HasBytes}
+use Rattle.lowering_laws.specs.Values.{AllInRange}
 use Rattle.abi_machine.specs.sound.Owners.{IsApart}
 use Rattle.abi_machine.specs.sound.MadeInstances.{IsTypedGraph}
 use Rattle.abi_machine.specs.sound.Callees.{IsUsedGraph}

@@ -6,6 +6,9 @@ ghost use Rattle.reach_laws.specs.Going.{
   NoneIsStuck,
   OneRunComes,
 };
+ghost use Rattle.reach_laws.specs.KnownCalls.{ReachedCallsAreKnown};
+ghost use Rattle.reach_laws.specs.KnownCopies.{ReachedCopiesAreKnown};
+ghost use Rattle.reach_laws.specs.KnownEnds.{ReachedEndsAreKnown};
 ghost use Rattle.reach_laws.specs.Reached.{
   CodePassesWords,
   ReachedAnswerWords,
@@ -52,6 +55,25 @@ pub fn steps_are_fed()
     ensures copies { ReachedStandInside }
     ensures answers { ReachedAnswerWords }
     ensures puts { ReachedPutInside }
+{}
+
+/// In each world that a run reaches a subtask that stands in the table of a component instance was called by a task that runs a function of that instance;
+/// a task that another one called runs in another component instance than that one; and one that a task cancels was called from its own component
+/// instance: where definitions stay apart.
+pub fn calls_are_known()
+    ensures { ReachedCallsAreKnown }
+{}
+
+/// In each world that a run reaches the end of a stream or a future stands at one index of one table at most, and was not dropped where it does: where
+/// definitions stay apart, and the arguments of the script's calls hold no end.
+pub fn ends_are_known()
+    ensures { ReachedEndsAreKnown }
+{}
+
+/// In each such world the task of a copy whose call waits is waiting for it, at the index of its end; so the copy at an end that stands in a table is waited
+/// for directly exactly where its call waits.
+pub fn copies_are_known()
+    ensures { ReachedCopiesAreKnown }
 {}
 
 /// In each world that a run of such a graph and script reaches a step or the end of the run comes next, and one alone: so no world is stuck.

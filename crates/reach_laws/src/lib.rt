@@ -5,7 +5,7 @@
 //! what is asked of a graph, which linking gives, and of a script for it; from this alone `specs/Reached` has that every world which a run reaches is
 //! typed, and that the premises hold in it, and `specs/Going` that either one step comes next there, or the run has ended, so that there is exactly one
 //! run: steps that cost nothing come to an end, whatever the graph and the script. `specs/ReadScripts` has what holds of the arguments in a script that
-//! is read.
+//! is read. `specs/Known..` have what else is so of each reached world: of tasks that call tasks, and of ends.
 //!
 //! - `laws`: the laws
 #![tactic(auto)]
@@ -13,6 +13,7 @@
 mod laws;
 
 pub use laws::{
-    exactly_one_next, free_steps_end, one_run_comes, reached_worlds_are_typed,
-    read_scripts_pass_no_handles, scripts_pass_typed, steps_are_fed,
+    calls_are_known, copies_are_known, ends_are_known, exactly_one_next, free_steps_end,
+    one_run_comes, reached_worlds_are_typed, read_scripts_pass_no_handles, scripts_pass_typed,
+    steps_are_fed,
 };

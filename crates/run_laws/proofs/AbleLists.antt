@@ -5,7 +5,7 @@ use Rattle.ca_types.specs.declared.types.ValType.{ValType}
 use Rattle.wasm_store.specs.Stack.{Stack}
 use Rattle.comp_graph.specs.Graph.{Graph}
 use Rattle.script_reader.specs.Script.{Script}
-use Rattle.trace_show.specs.declared.label.Label.{Label}
+use Rattle.trace_labels.specs.declared.label.Label.{Label}
 use Rattle.task_table.specs.declared.slot.TaskSlot.{TaskSlot}
 use Rattle.task_table.specs.Slots as slots
 use Rattle.replies.specs.Seen.{seen}

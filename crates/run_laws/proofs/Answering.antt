@@ -26,7 +26,7 @@ use Rattle.comp_graph.specs.declared.graph.Lower.{Lower}
 use Rattle.comp_graph.specs.declared.graph.Options.{Options}
 use Rattle.comp_graph.specs.Graph.{Graph, Lifted}
 use Rattle.script_reader.specs.Script.{Script}
-use Rattle.trace_show.specs.declared.label.Label.{Label}
+use Rattle.trace_labels.specs.declared.label.Label.{Label}
 use Rattle.instances.specs.declared.entry.WorldEntry.TheVariants as entry
 use Rattle.task_table.specs.declared.errand.Callee.TheVariants as callee
 use Rattle.world_parts.specs.declared.parts.Flow.{Flow}
@@ -236,7 +236,7 @@ module _ (g : Graph) (values : List ValType) (s : Script) (funcs : List FuncType
       let own : b.instance ≡ f.instance = calls.own in
       so_on g values s t h.labels stacks _ _
       (subst (λ (at : ℕ). AgreesOn g values s t h.labels stacks (set_wait (seen g) t at number op words h) (wait_turn g t task at op number words w)) (sym own)
-      (set_is_waited_for g values s (seen g) h stacks w t number one.0 other.0 op task f here.right words (graph_is_seen g).0 (graph_is_seen g).1 one.1 other.1 (beside.memories number)
+      (set_is_waited_for g values s (seen g) h stacks w t number one.0 other.0 op task f here.right words (graph_is_seen g).0 (graph_is_seen g).1 one.1 other.1 keeps (beside.memories number)
       calls.acts.first calls.acts.there calls.state calls.acts.runs (subst (λ (at : ℕ). slice_get w.insts at ≡ Some here.right) own here.is_right) (sound.sets here.right here.is_right)
       (λ set. subst (λ (at : ℕ). HasNews values (seen g) h w at set) own (news set)) st))
 

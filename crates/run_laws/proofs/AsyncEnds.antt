@@ -15,11 +15,11 @@ use Rattle.tasks.specs.declared.event.BlockedAt.TheVariants as blocked_at
 use Rattle.tasks.specs.Tasks.{is_acting}
 use Rattle.comp_graph.specs.Graph.{Graph, Lifted}
 use Rattle.script_reader.specs.Script.{Script}
-use Rattle.trace_show.specs.declared.label.BlockReason.{BlockReason}
-use Rattle.trace_show.specs.declared.label.BlockReason.TheVariants as reason
-use Rattle.trace_show.specs.declared.label.Label.{Label}
-use Rattle.trace_show.specs.declared.trap.TrapName.{TrapName}
-use Rattle.trace_show.specs.declared.trap.TrapName.TheVariants as trap
+use Rattle.trace_labels.specs.declared.label.BlockReason.{BlockReason}
+use Rattle.trace_labels.specs.declared.label.BlockReason.TheVariants as reason
+use Rattle.trace_labels.specs.declared.label.Label.{Label}
+use Rattle.trace_labels.specs.declared.trap.TrapName.{TrapName}
+use Rattle.trace_labels.specs.declared.trap.TrapName.TheVariants as trap
 use Rattle.instances.specs.Entries as entries
 use Rattle.instances.specs.Instances.{InstanceView, entry_of, with_gate, with_sets}
 use Rattle.world_parts.specs.declared.parts.Flow.{Flow}
@@ -75,7 +75,7 @@ module _ (g : Graph) (values : List ValType) (s : Script) (stacks : List (List S
       done_as g values s t before stacks _ _ _
       (via _ _ _ _ (steps.found (slice_get h.instances f.instance) k.inst (λ i. Gives tt (with_instance f.instance (with_gate (given_up t i.gate) i) h)) k.here))
       (on_wait g values s before (with_instance f.instance up h) stacks w t k.slot (blocked_at.Loop word) false why (InLoop word) k.is
-      (ap is_acting (k.alike.far ∙ ap (λ state. phase_of (flag_at g) state) e.state)) refl (sym (k.alike.at ∙ ap errand_of e.state)) e.acts.first same
+      (ap is_acting (k.alike.far ∙ ap (λ state. phase_of (flag_at g) state) e.state)) refl (sym (k.alike.at ∙ ap errand_of e.state)) tt e.acts.first same
       (instances_stay g values s h stacks w f.instance k.inst up k.here
       (λ a now. entry_is_not_said values k.inst a (given_up t k.inst.gate) (up_pressure (is_holder t k.inst.gate.holder) k.inst.gate) now) st))
 

@@ -18,8 +18,8 @@ use Rattle.channels.specs.declared.channel.Channel as kept_channel
 use Rattle.comp_graph.specs.Graph.{Graph}
 use Rattle.graph_views.specs.Canons.{canon_at}
 use Rattle.graph_views.specs.Names.{builtin_of}
-use Rattle.trace_show.specs.declared.label.Label.{Label}
-use Rattle.trace_show.specs.declared.label.Label.TheVariants as line
+use Rattle.trace_labels.specs.declared.label.Label.{Label}
+use Rattle.trace_labels.specs.declared.label.Label.TheVariants as line
 use Rattle.task_table.specs.declared.errand.Callee.{Callee}
 use Rattle.task_table.specs.declared.slot.TaskSlot.{TaskSlot}
 use Rattle.task_table.specs.Slots.{with_word}

@@ -73,6 +73,7 @@ module _ (g : Graph) (values : List ValType) (s : Script) where
           resolved = now.resolved;
           cancelled = now.cancelled;
           words = now.words;
+          placed = now.placed;
         }) st;
         told = refl;
         same_tasks = seen_set (λ (slot : TaskSlot). slot.callee) h.tasks t x y there refl;

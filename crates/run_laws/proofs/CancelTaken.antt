@@ -15,8 +15,8 @@ use Rattle.tasks.specs.Tasks.{is_unasked, may_cancel}
 use Rattle.comp_graph.specs.Graph.{Graph, Lifted}
 use Rattle.script_reader.specs.declared.script.Item.TheVariants as item
 use Rattle.script_reader.specs.Script.{Script}
-use Rattle.trace_show.specs.declared.label.Label.{Label}
-use Rattle.trace_show.specs.declared.label.Label.TheVariants as line
+use Rattle.trace_labels.specs.declared.label.Label.{Label}
+use Rattle.trace_labels.specs.declared.label.Label.TheVariants as line
 use Rattle.task_table.specs.declared.caller.Caller as kept_caller
 use Rattle.task_table.specs.declared.caller.Caller.TheVariants as by
 use Rattle.task_table.specs.declared.slot.TaskSlot.{TaskSlot}

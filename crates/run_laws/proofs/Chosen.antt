@@ -11,8 +11,8 @@ use Rattle.comp_graph.specs.Graph.{Graph}
 use Rattle.script_reader.specs.declared.script.Item.{Item}
 use Rattle.script_reader.specs.declared.script.Item.TheVariants as item
 use Rattle.script_reader.specs.Script.{Script}
-use Rattle.trace_show.specs.declared.label.Label.{Label}
-use Rattle.trace_show.specs.declared.label.Label.TheVariants as line
+use Rattle.trace_labels.specs.declared.label.Label.{Label}
+use Rattle.trace_labels.specs.declared.label.Label.TheVariants as line
 use Rattle.programs.specs.declared.program.Program.{Program}
 use Rattle.replies.specs.Seen.{seen}
 use Rattle.world_parts.specs.declared.parts.Turned.{Turned}
@@ -152,6 +152,8 @@ by_alternatives g values s p h piles w None [] program empty free is are unfinis
   reached = refl;
   same_lines = empty;
   is_next = free_is g s w None [] free is (are w.picks) ∙ ap (λ (xs : List ℕ). Ends (end_by xs)) (sym unfinished_are);
+  stacks = stacks_at piles;
+  stands = st;
 }
 by_alternatives g values s p h piles w None (t ∷ []) program empty free is are unfinished_are counted cancels st =
     one_done g values s p h h piles w w (with_control Free w) [] None (t ∷ []) 0 program counted st.as_taken is st

@@ -21,8 +21,8 @@ use Rattle.comp_graph.specs.declared.graph.CanonFunc.{CanonFunc}
 use Rattle.comp_graph.specs.Graph.{Graph}
 use Rattle.comp_graph.specs.Passed.{MayBeAt}
 use Rattle.script_reader.specs.Script.{Script}
-use Rattle.trace_show.specs.declared.label.Copied.TheVariants.{Units, Values}
-use Rattle.trace_show.specs.declared.label.Label.{Label}
+use Rattle.trace_labels.specs.declared.label.Copied.TheVariants.{Units, Values}
+use Rattle.trace_labels.specs.declared.label.Label.{Label}
 use Rattle.task_table.specs.declared.slot.TaskSlot.{TaskSlot}
 use Rattle.programs.specs.declared.program.Program.{Program}
 use Rattle.copy_replies.specs.declared.moving.Moving.{Moving}

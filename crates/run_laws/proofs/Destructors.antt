@@ -16,9 +16,9 @@ use Rattle.comp_graph.specs.Graph.{Graph, Lifted}
 use Rattle.comp_graph.specs.Needs.{flat_result_limit}
 use Rattle.graph_views.specs.Callees.{lift_of, destructor_lift}
 use Rattle.script_reader.specs.Script.{Script}
-use Rattle.trace_show.specs.declared.label.Label.{Label}
-use Rattle.trace_show.specs.declared.label.Label.TheVariants as line
-use Rattle.trace_show.specs.declared.typed.TypedValue.{TypedValue}
+use Rattle.trace_labels.specs.declared.label.Label.{Label}
+use Rattle.trace_labels.specs.declared.label.Label.TheVariants as line
+use Rattle.trace_labels.specs.declared.typed.TypedValue.{TypedValue}
 use Rattle.task_table.specs.declared.caller.Caller as kept_caller
 use Rattle.task_table.specs.declared.caller.Caller.TheVariants as by
 use Rattle.task_table.specs.declared.errand.Callee as kept_callee

@@ -26,8 +26,8 @@ use Rattle.ca_types.specs.declared.exports.Export.{Export}
 use Rattle.graph_views.specs.Callees as seen
 use Rattle.graph_views.specs.Callees.{lift_of}
 use Rattle.script_reader.specs.Script.{Script}
-use Rattle.trace_show.specs.declared.label.Label.{Label}
-use Rattle.trace_show.specs.declared.label.Label.TheVariants as line
+use Rattle.trace_labels.specs.declared.label.Label.{Label}
+use Rattle.trace_labels.specs.declared.label.Label.TheVariants as line
 use Rattle.task_table.specs.declared.caller.Caller as kept_caller
 use Rattle.task_table.specs.declared.caller.Caller.TheVariants as by
 use Rattle.task_table.specs.declared.errand.Callee as kept_callee

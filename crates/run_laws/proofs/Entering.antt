@@ -14,8 +14,8 @@ use Rattle.tasks.specs.Tasks as task_of
 use Rattle.tasks.specs.Tasks.{is_new, is_entry, waits_to_enter}
 use Rattle.comp_graph.specs.Graph.{Graph}
 use Rattle.script_reader.specs.Script.{Script}
-use Rattle.trace_show.specs.declared.label.Label.{Label}
-use Rattle.trace_show.specs.declared.label.Label.TheVariants as line
+use Rattle.trace_labels.specs.declared.label.Label.{Label}
+use Rattle.trace_labels.specs.declared.label.Label.TheVariants as line
 use Rattle.instances.specs.Instances.{InstanceView, with_gate}
 use Rattle.task_table.specs.declared.errand.Callee.{Callee}
 use Rattle.task_table.specs.declared.errand.Errand.TheVariants as errand
@@ -148,6 +148,7 @@ module _ (g : Graph) (values : List ValType) (s : Script) (stacks : List (List S
         resolved = now.resolved;
         cancelled = now.cancelled;
         words = now.words;
+        placed = tt;
       }
 
   -- Its caller is to be told.

@@ -7,8 +7,8 @@ use Rattle.wasm_store.specs.Stack.{Stack}
 use Rattle.ca_types.specs.declared.types.ValType.{ValType}
 use Rattle.comp_graph.specs.Graph.{Graph}
 use Rattle.script_reader.specs.Script.{Script}
-use Rattle.trace_show.specs.declared.label.Label.{Label}
-use Rattle.trace_show.specs.declared.trap.TrapName.{TrapName}
+use Rattle.trace_labels.specs.declared.label.Label.{Label}
+use Rattle.trace_labels.specs.declared.trap.TrapName.{TrapName}
 use Rattle.programs.specs.declared.program.Program.{Program}
 use Rattle.world_parts.specs.declared.parts.Flow.{Flow}
 use Rattle.world_parts.specs.declared.parts.Flow.TheVariants as flow
@@ -88,13 +88,13 @@ module _ (p : Program) (values : List ValType) (s : Script) (h : Held) (piles : 
 
   -- A trap that the machine comes to.
   pub trap_so : (l : Held) (now : List (List Stack)) (v z : World) (lines : List Label) (why : TrapName) → IsReached g s w → GoesTo g s w lines z → z.control ≡ Doomed t why → z.chain ≡ v.chain
-      → Stands g values s l now v → ahead ++ l.labels ≡ lines → Agreed (Traps why l)
+      → Stands g values s l now z → ahead ++ l.labels ≡ lines → Agreed (Traps why l)
   trap_so l now v z lines why reached goes doomed chain st told =
       let all = goes_then g s (first_world g) w z (lines_of reached.0) lines (reached.0, reached.1, refl) goes in
       let first : slice_get z.chain 0 ≡ Some t = traps_name_the_acting_task g s all.0 z t why all.1 (doomed_next g s z t why doomed) in (
         t,
-        acting_is_alike g values s l now v st ∙ ap (λ (c : List ℕ). slice_get c 0) (sym chain) ∙ first,
-        record { steps = goes.0; world = z; reached = goes.1; same_lines = told ∙ goes.2; is_next = doomed_next g s z t why doomed },
+        acting_is_alike g values s l now z st ∙ first,
+        record { steps = goes.0; world = z; reached = goes.1; same_lines = told ∙ goes.2; is_next = doomed_next g s z t why doomed; stacks = now; stands = st },
       )
 
   -- Where what is kept stands for a world before the part, in which this task acts.

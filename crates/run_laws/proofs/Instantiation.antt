@@ -5,8 +5,8 @@ use Rattle.ca_types.specs.declared.types.ValType.{ValType}
 use Rattle.wasm_store.specs.Stack.{Stack}
 use Rattle.comp_graph.specs.Graph.{Graph}
 use Rattle.script_reader.specs.Script.{Script}
-use Rattle.trace_show.specs.declared.label.Label.{Label}
-use Rattle.trace_show.specs.declared.trap.TrapName.{TrapName}
+use Rattle.trace_labels.specs.declared.label.Label.{Label}
+use Rattle.trace_labels.specs.declared.trap.TrapName.{TrapName}
 use Rattle.programs.specs.declared.program.Program.{Program}
 use Rattle.world_parts.specs.declared.parts.Rest.{Rest}
 use Rattle.world_parts.specs.declared.parts.Rest.TheVariants as rest
@@ -63,6 +63,8 @@ as_step g values s before w (Traps why k) none a = (
     reached = (with_control (Doomed 0 why) a.1.world, a.1.ends.0, refl);
     same_lines = a.1.told ∙ ap (λ (ls : List Label). ls ++ a.1.lines) none ∙ sym (append-nil a.1.lines);
     is_next = refl;
+    stacks = a.0;
+    stands = a.1.stands;
   },
 )
 as_step g values s before w (Spent k) none a = absurd a

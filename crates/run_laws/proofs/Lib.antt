@@ -61,5 +61,7 @@ pub mod keeping
 pub mod Whole
 pub mod lists
 pub mod supplied
+pub mod SuppliedWorlds
 pub mod silent
 pub mod well
+pub mod onward

@@ -304,7 +304,7 @@ module _ {S J : Type 0} (l : ledgers.Ledger S J) (m : machine.Ledger S J) (same 
   field_step : (y : F.Field-F OfType OfCase OfField) → IsField (roll-Field (map-Field OfType OfCase OfField ValType Case Field (λ e. e.0) (λ e. e.0) (λ e. e.0) y))
   field_step y = y.val_type.1
 
-  every : (t : ValType) → Is t
+  pub every : (t : ValType) → Is t
   every =
       ind-ValType Is IsCase IsField
       (λ x y e. subst (λ (z : F.ValType-F ValType Case Field). Is (roll-ValType z)) e (step y))

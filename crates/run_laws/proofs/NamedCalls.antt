@@ -19,14 +19,14 @@ use Rattle.run_laws.specs.Programs.{ProgramsAreNamed}
 use Rattle.run_laws.specs.Turns.{IsNamed}
 
 -- The export of a function that has a name.
-found_export : (g : Graph) (o : Option ℕ) (f : Lifted) → option_and_then (func_at g) o ≡ Some f → (k : ℕ) × (o ≡ Some k) × (func_at g k ≡ Some f)
+pub found_export : (g : Graph) (o : Option ℕ) (f : Lifted) → option_and_then (func_at g) o ≡ Some f → (k : ℕ) × (o ≡ Some k) × (func_at g k ≡ Some f)
 found_export g None f e = absurd (cc)
 found_export g (Some k) f e = (k, refl, e)
 
 abbrev Has : Graph → Program → Call → List CallNumbers → ℕ → Type 0
 Has g p call all at = (numbers : CallNumbers) × (slice_get all at ≡ Some numbers) × IsNamed g p call numbers
 
-abbrev front : ℕ → Option ℕ → List CallNumbers → List CallNumbers
+abbrev pub front : ℕ → Option ℕ → List CallNumbers → List CallNumbers
 front n o rest = option_map_or (λ (export : ℕ). record { item = n; export = export } ∷ []) o [] ++ rest
 
 -- The calls before a call are so many.

@@ -4,7 +4,7 @@ use Rattle.wasm_store.specs.Stack.{Stack}
 use Rattle.ca_types.specs.declared.types.ValType.{ValType}
 use Rattle.comp_graph.specs.Graph.{Graph}
 use Rattle.script_reader.specs.Script.{Script}
-use Rattle.trace_show.specs.declared.label.Label.{Label}
+use Rattle.trace_labels.specs.declared.label.Label.{Label}
 use Rattle.world_parts.specs.declared.parts.Flow.{Flow}
 use Rattle.world_parts.specs.declared.parts.Flow.TheVariants as flow
 use Rattle.world_parts.specs.Held as kept

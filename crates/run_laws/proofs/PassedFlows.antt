@@ -15,12 +15,12 @@ use Rattle.task_table.specs.declared.errand.Callee.{Callee}
 use Rattle.tasks.specs.declared.event.BlockedAt.{BlockedAt}
 use Rattle.tasks.specs.declared.event.BlockedAt.TheVariants as blocked_at
 use Rattle.tasks.specs.declared.event.TaskEvent.TheVariants as event
-use Rattle.trace_show.specs.declared.label.BlockReason.{BlockReason}
-use Rattle.trace_show.specs.declared.label.BlockReason.TheVariants as reason
-use Rattle.trace_show.specs.declared.label.Copied.{Copied}
-use Rattle.trace_show.specs.declared.label.Copied.TheVariants.{Units}
-use Rattle.trace_show.specs.declared.label.Label.TheVariants as line
-use Rattle.trace_show.specs.declared.trap.TrapName.TheVariants as trap
+use Rattle.trace_labels.specs.declared.label.BlockReason.{BlockReason}
+use Rattle.trace_labels.specs.declared.label.BlockReason.TheVariants as reason
+use Rattle.trace_labels.specs.declared.label.Copied.{Copied}
+use Rattle.trace_labels.specs.declared.label.Copied.TheVariants.{Units}
+use Rattle.trace_labels.specs.declared.label.Label.TheVariants as line
+use Rattle.trace_labels.specs.declared.trap.TrapName.TheVariants as trap
 use Rattle.programs.specs.declared.program.Program.{Program}
 use Rattle.programs.specs.Program.{value_of}
 use Rattle.world_parts.specs.declared.parts.Copying.{Copying}

@@ -17,8 +17,8 @@ use Rattle.comp_graph.specs.Graph.{Graph, Lifted}
 use Rattle.comp_graph.specs.Passed.{MayBeAt}
 use Rattle.graph_views.specs.Canons as seen
 use Rattle.script_reader.specs.Script.{Script}
-use Rattle.trace_show.specs.declared.label.Label.{Label}
-use Rattle.trace_show.specs.declared.typed.TypedValue.{TypedValue}
+use Rattle.trace_labels.specs.declared.label.Label.{Label}
+use Rattle.trace_labels.specs.declared.typed.TypedValue.{TypedValue}
 use Rattle.task_table.specs.declared.caller.Called.{Called}
 use Rattle.task_table.specs.declared.caller.Caller as kept_caller
 use Rattle.task_table.specs.declared.caller.Caller.TheVariants as by
@@ -130,6 +130,7 @@ kept_stands g s words x a may st = record {
   resolved = st.resolved;
   cancelled = st.cancelled;
   words = st.words;
+  placed = st.placed;
 }
   where
     called_so : (q : kept_caller.Caller) (b : Caller) → may_keep q ≡ true → CallerStands s q b

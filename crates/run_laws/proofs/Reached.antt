@@ -9,7 +9,7 @@ use Rattle.handle_table.specs.History.{live}
 use Rattle.comp_graph.specs.declared.graph.CanonFunc.{CanonFunc}
 use Rattle.comp_graph.specs.Graph.{Graph, Lifted}
 use Rattle.script_reader.specs.Script.{Script}
-use Rattle.trace_show.specs.declared.label.Label.{Label}
+use Rattle.trace_labels.specs.declared.label.Label.{Label}
 use Rattle.abi_machine.specs.Control.{Control, Calls}
 use Rattle.abi_machine.specs.World.{Entry, OfSubtask, OfSet, Inst, Callee, Caller, Nobody, Host, Guest, Subtask, New, Acting, AfterCall, AfterCancel, Begins, WaitsToEnter, InLoop, InBuiltin, Exited, TaskState, Task, World, first_world}
 use Rattle.abi_machine.specs.Canons.{inst_of_canon}

@@ -44,10 +44,10 @@ use Rattle.task_table.specs.declared.refusal.EventError.TheVariants as event_err
 use Rattle.task_table.specs.declared.slot.TaskSlot.{TaskSlot}
 use Rattle.task_table.specs.Callers.{may_raise, may_keep}
 use Rattle.task_table.specs.Slots.{event_answer, advanced_slot, raised_slot, kept_slot, with_word}
-use Rattle.trace_show.specs.declared.label.Label.{Label}
-use Rattle.trace_show.specs.declared.label.Label.TheVariants as line
-use Rattle.trace_show.specs.declared.trap.TrapName.TheVariants as trap
-use Rattle.trace_show.specs.declared.typed.TypedValue.{TypedValue}
+use Rattle.trace_labels.specs.declared.label.Label.{Label}
+use Rattle.trace_labels.specs.declared.label.Label.TheVariants as line
+use Rattle.trace_labels.specs.declared.trap.TrapName.TheVariants as trap
+use Rattle.trace_labels.specs.declared.typed.TypedValue.{TypedValue}
 use Rattle.programs.specs.declared.program.Program.{Program}
 use Rattle.programs.specs.Program.{value_of, returned_of, resources_of}
 use Rattle.instances.specs.declared.entry.WorldEntry.{WorldEntry}

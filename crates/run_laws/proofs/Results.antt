@@ -20,10 +20,10 @@ use Rattle.comp_graph.specs.Passed.{MayBeAt}
 use Rattle.graph_views.specs.Callees.{lift_of}
 use Rattle.graph_views.specs.Canons as seen
 use Rattle.script_reader.specs.Script.{Script}
-use Rattle.trace_show.specs.declared.label.Label.{Label}
-use Rattle.trace_show.specs.declared.label.Label.TheVariants as line
-use Rattle.trace_show.specs.declared.trap.TrapName.TheVariants as trap
-use Rattle.trace_show.specs.declared.typed.TypedValue.{TypedValue}
+use Rattle.trace_labels.specs.declared.label.Label.{Label}
+use Rattle.trace_labels.specs.declared.label.Label.TheVariants as line
+use Rattle.trace_labels.specs.declared.trap.TrapName.TheVariants as trap
+use Rattle.trace_labels.specs.declared.typed.TypedValue.{TypedValue}
 use Rattle.task_table.specs.declared.errand.Callee as kept_callee
 use Rattle.task_table.specs.declared.slot.TaskSlot.{TaskSlot}
 use Rattle.programs.specs.declared.program.Program.{Program}

@@ -13,11 +13,11 @@ use Rattle.tasks.specs.Tasks as task_of
 use Rattle.tasks.specs.Tasks.{is_acting, fault, resolving_fault}
 use Rattle.comp_graph.specs.Graph.{Graph}
 use Rattle.script_reader.specs.Script.{Script}
-use Rattle.trace_show.specs.declared.label.Label.{Label}
-use Rattle.trace_show.specs.declared.label.Label.TheVariants as line
-use Rattle.trace_show.specs.declared.trap.TrapName.{TrapName}
-use Rattle.trace_show.specs.declared.trap.TrapName.TheVariants as trap
-use Rattle.trace_show.specs.declared.typed.TypedValue.{TypedValue}
+use Rattle.trace_labels.specs.declared.label.Label.{Label}
+use Rattle.trace_labels.specs.declared.label.Label.TheVariants as line
+use Rattle.trace_labels.specs.declared.trap.TrapName.{TrapName}
+use Rattle.trace_labels.specs.declared.trap.TrapName.TheVariants as trap
+use Rattle.trace_labels.specs.declared.typed.TypedValue.{TypedValue}
 use Rattle.task_table.specs.declared.refusal.EventError.TheVariants.{NotNow}
 use Rattle.task_table.specs.declared.slot.TaskSlot.{TaskSlot}
 use Rattle.task_table.specs.Callers as callers
@@ -153,6 +153,7 @@ module _ (g : Graph) (values : List ValType) (s : Script) (t : ℕ) (u : World) 
           resolved = refl;
           cancelled = now.cancelled;
           words = now.words;
+          placed = now.placed;
         }) (λ a. refl) st
 
     y_there : slice_get lined.tasks t ≡ Some y

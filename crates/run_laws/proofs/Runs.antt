@@ -9,8 +9,8 @@ use Rattle.wasm_execution.specs.declared.running.Outcome.TheVariants as outcome
 use Rattle.ca_types.specs.declared.types.ValType.{ValType}
 use Rattle.comp_graph.specs.Graph.{Graph}
 use Rattle.script_reader.specs.Script.{Script}
-use Rattle.trace_show.specs.declared.label.Label.{Label}
-use Rattle.trace_show.specs.declared.trap.TrapName.{TrapName}
+use Rattle.trace_labels.specs.declared.label.Label.{Label}
+use Rattle.trace_labels.specs.declared.trap.TrapName.{TrapName}
 use Rattle.world_parts.specs.declared.parts.Rest.{Rest}
 use Rattle.world_parts.specs.Held as kept
 use Rattle.world_parts.specs.Held.{Held, Done, Gives, Traps, Spent}
@@ -25,7 +25,7 @@ use Rattle.machine_runs.specs.Moving.{acting_of}
 use Rattle.machine_runs.specs.Stepping.{outcome_done, TopComes, passing_behind, PileSteps, TaskSteps}
 use Rattle.abi_machine.specs.declared.run_end.RunEnd.TheVariants.{Fuel}
 use Rattle.abi_machine.specs.Control.{Control, Free, Runs}
-use Rattle.abi_machine.specs.World.{Task, World}
+use Rattle.abi_machine.specs.World.{Callee, New, Acting, AfterCall, AfterCancel, Begins, WaitsToEnter, InLoop, InBuiltin, Exited, TaskState, Task, World}
 use Rattle.abi_machine.specs.Edits.{with_control}
 use Rattle.abi_machine.specs.Reading.{func_of, kind_of}
 use Rattle.abi_machine.specs.Turn as turns
@@ -33,14 +33,17 @@ use Rattle.abi_machine.specs.Turn.{Turn, Ends, behind}
 use Rattle.abi_machine.specs.CoreSteps.{func_ended}
 use Rattle.abi_machine.specs.Next.{next_by}
 use Rattle.abi_machine.specs.Run.{lines_of}
+use Rattle.abi_machine.specs.sound.Acting.{outline_of, outlines_of, RunsIn, IsRunning, ActsBy, IsOrdered}
+use Rattle.abi_machine.proofs.sound.Found.{some_same}
 use Rattle.standing.specs.Stands.{Stands}
 use Rattle.standing.specs.Agreeing.{acting_words, control_of, control_at}
 use Rattle.standing.specs.Leading.{ComesBy, EndsBy, IsDoomed}
-use Rattle.standing.specs.TaskRuns.{func_turn, FuncEnds, AfterRun, RunLeads, OutcomeLeads, RunsPile}
+use Rattle.standing.specs.TaskRuns.{func_turn, FuncEnds, AfterRun, RunLeads, OutcomeLeads, ActsStill, RunsPile}
 use Rattle.standing.proofs.Changes.{acting_is_alike}
 use Rattle.standing.proofs.TaskRuns.{task_runs_lead}
 use Rattle.run_laws.specs.Points.{ended, stacks_at}
 use Rattle.run_laws.specs.Runs.{RuleAgrees, RunStepsAgree}
+use Rattle.run_laws.proofs.Reached.{outline_at}
 
 -- What is seen of items, where one is another, and at a place.
 pub map_set : {A B : Type 0} (f : A → B) (xs : List A) (n : ℕ) (y : A) → slice_set (map f xs) n (f y) ≡ map f (slice_set xs n y)
@@ -52,6 +55,30 @@ pub map_at : {A B : Type 0} (f : A → B) (xs : List A) (n : ℕ) (x : A) → sl
 map_at f [] n x e = absurd (cc)
 map_at f (y ∷ xs) zero x e = let same : y ≡ x = cc in ap (λ z. Some (f z)) same
 map_at f (y ∷ xs) (suc n) x e = map_at f xs n x e
+
+-- The task whose code runs acts, or a start function of its instance runs.
+abbrev ActsStillAt : World → ℕ → Type 0
+ActsStillAt w t = (task : Task) → slice_get w.tasks t ≡ Some task → ActsStill task.state
+
+still_runs : (state : TaskState) (callee : Callee) → RunsIn state callee → ActsStill state
+still_runs Acting callee h = λ flag. refl
+still_runs (Begins n) callee h = λ flag. refl
+still_runs New callee h = absurd h
+still_runs (AfterCall called number words) callee h = absurd h
+still_runs (AfterCancel called number words) callee h = absurd h
+still_runs WaitsToEnter callee h = absurd h
+still_runs (InLoop word) callee h = absurd h
+still_runs (InBuiltin number words wait) callee h = absurd h
+still_runs Exited callee h = absurd h
+
+acting_still : (w : World) (t : ℕ) → IsOrdered w → w.control ≡ Runs → slice_get w.chain 0 ≡ Some t → ActsStillAt w t
+acting_still w t ordered control first task there =
+    let acts : _ = subst (λ (x : Control). ActsBy x (outlines_of w.tasks) w.chain) control ordered.2 in
+    let same : acts.0 ≡ t = some_same (sym acts.1.0 ∙ first) in
+    let outline : _ = acts.1.1 in
+    let is : outline.0 ≡ outline_of task = outline_at w.tasks t task outline.0 there (ap (λ (n : ℕ). slice_get (outlines_of w.tasks) n) (sym same) ∙ outline.1) in
+    let running : IsRunning (outline_of task) = subst IsRunning is outline.2 in
+    still_runs task.state task.callee running.0
 
 module _ (g : Graph) (values : List ValType) (s : Script) (w : World) (t : ℕ) (piles : List PileView) where
   abbrev Agrees : Done (Step × List PileView) → Type 0
@@ -116,6 +143,8 @@ module _ (g : Graph) (values : List ValType) (s : Script) (w : World) (t : ℕ) 
       reached = c.goes.1;
       same_lines = c.told ∙ c.goes.2;
       is_next = ap (λ (x : Control). next_by g s (with_control Free c.world) x) c.ends.0;
+      stacks = stacks;
+      stands = c.stands;
     },
   )
 
@@ -148,28 +177,29 @@ module _ (g : Graph) (values : List ValType) (s : Script) (w : World) (t : ℕ) 
   stuck first d is b = handed_on first d (subst (RunLeads g values s t w [] (stacks_at piles)) (sym is) tt) b
 
   by_top : (h : Held) (p : PileView) (first : Done (Option (List ℕ) × PileView)) (d : Done (Step × List PileView)) (x : Top) → h.labels ≡ [] → w.control ≡ Runs
-      → slice_get w.chain 0 ≡ Some t → slice_get piles t ≡ Some p → Stands g values s h (stacks_at piles) w → p.top ≡ x → TopComes t x p h first
+      → slice_get w.chain 0 ≡ Some t → ActsStillAt w t → slice_get piles t ≡ Some p → Stands g values s h (stacks_at piles) w → p.top ≡ x → TopComes t x p h first
       → Behind first (λ r k e. e ≡ follows r k) d → Agrees d
-  by_top h p first d top.Empty none control acts there st is c b = stuck first d c b
-  by_top h p first d (top.Waits call) none control acts there st is c b = stuck first d c b
-  by_top h p first d (top.Goes k) none control acts there st is c b =
-      let runs : RunsPile w t (stacks_at piles) p k = record { control = control; acts = acts; piled = map_at stacks_of piles t p there; goes = is } in
+  by_top h p first d top.Empty none control acts still there st is c b = stuck first d c b
+  by_top h p first d (top.Waits call) none control acts still there st is c b = stuck first d c b
+  by_top h p first d (top.Goes k) none control acts still there st is c b =
+      let runs : RunsPile w t (stacks_at piles) p k = record { control = control; acts = acts; acting = still; piled = map_at stacks_of piles t p there; goes = is } in
       by_outcome (with_top top.Empty p) c.0 (record h { store = c.1; left = c.2 }) first d
       (subst (λ (ls : List Label). OutcomeLeads g values s t w ls (stacks_at piles) (with_top top.Empty p) c.0 (record h { store = c.1; left = c.2 })) none
       (task_runs_lead g values s h (stacks_at piles) w t p k c.0 c.1 c.2 runs st c.3)) c.4 b
 
 by_pile : (g : Graph) (values : List ValType) (s : Script) (h : Held) (piles : List PileView) (w : World) (d : Done (Step × List PileView)) (t : ℕ) (o : Option PileView) → h.labels ≡ []
-    → w.control ≡ Runs → slice_get w.chain 0 ≡ Some t → Stands g values s h (stacks_at piles) w → slice_get piles t ≡ o → PileSteps t o piles h d → RuleAgrees g values s [] w d
-by_pile g values s h piles w d t None none control acts st there steps = subst (RuleAgrees g values s [] w) (sym steps) tt
-by_pile g values s h piles w d t (Some p) none control acts st there steps =
-    by_top g values s w t piles h p steps.0 d p.top none control acts there st refl steps.1 steps.2
+    → w.control ≡ Runs → slice_get w.chain 0 ≡ Some t → ActsStillAt w t → Stands g values s h (stacks_at piles) w → slice_get piles t ≡ o → PileSteps t o piles h d → RuleAgrees g values s [] w d
+by_pile g values s h piles w d t None none control acts still st there steps = subst (RuleAgrees g values s [] w) (sym steps) tt
+by_pile g values s h piles w d t (Some p) none control acts still st there steps =
+    by_top g values s w t piles h p steps.0 d p.top none control acts still there st refl steps.1 steps.2
 
 by_task : (g : Graph) (values : List ValType) (s : Script) (h : Held) (piles : List PileView) (w : World) (d : Done (Step × List PileView)) (o : Option ℕ) → h.labels ≡ []
-    → w.control ≡ Runs → slice_get w.chain 0 ≡ o → Stands g values s h (stacks_at piles) w → TaskSteps o piles h d → RuleAgrees g values s [] w d
-by_task g values s h piles w d None none control acts st steps = subst (RuleAgrees g values s [] w) (sym steps) tt
-by_task g values s h piles w d (Some t) none control acts st steps = by_pile g values s h piles w d t (slice_get piles t) none control acts st refl steps
+    → IsOrdered w → w.control ≡ Runs → slice_get w.chain 0 ≡ o → Stands g values s h (stacks_at piles) w → TaskSteps o piles h d → RuleAgrees g values s [] w d
+by_task g values s h piles w d None none ordered control acts st steps = subst (RuleAgrees g values s [] w) (sym steps) tt
+by_task g values s h piles w d (Some t) none ordered control acts st steps =
+    by_pile g values s h piles w d t (slice_get piles t) none control acts (acting_still w t ordered control acts) st refl steps
 
 pub run_steps_agree : RunStepsAgree
-run_steps_agree g values s h piles w d none runs at steps =
-    by_task g values s h piles w d (acting_of h) none (at.control ∙ ap (λ (r : Rest). control_of (acting_words h) r) runs)
+run_steps_agree g values s h piles w d ordered none runs at steps =
+    by_task g values s h piles w d (acting_of h) none ordered (at.control ∙ ap (λ (r : Rest). control_of (acting_words h) r) runs)
     (sym (acting_is_alike g values s h (stacks_at piles) w at.stands)) at.stands steps

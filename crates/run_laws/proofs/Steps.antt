@@ -1,12 +1,12 @@
 -- A step as a whole.
-use Rattle.std.proofs.Common.{◌≡◌, ◌⊎◌, inl, inr, ◌-◌, ℕ, List, [], ◌++◌, length, refl, sym, ap, ◌∙◌, subst, is_some, append-nil, Option, Some}
+use Rattle.std.proofs.Common.{◌≡◌, ◌⊎◌, inl, inr, ◌-◌, ℕ, List, [], ◌++◌, ◌∷◌, length, refl, sym, ap, ◌∙◌, subst, is_some, append-nil, Option, Some}
 use Rattle.std.specs.List.{slice_get}
 use Rattle.wasm_store.specs.Stack.{Stack}
 use Rattle.ca_types.specs.declared.types.ValType.{ValType}
 use Rattle.comp_graph.specs.Graph.{Graph, Lifted}
 use Rattle.script_reader.specs.Script.{Script}
-use Rattle.trace_show.specs.declared.label.Label.{Label}
-use Rattle.trace_show.specs.declared.typed.TypedValue.{TypedValue}
+use Rattle.trace_labels.specs.declared.label.Label.{Label}
+use Rattle.trace_labels.specs.declared.typed.TypedValue.{TypedValue}
 use Rattle.programs.specs.declared.program.Program.{Program}
 use Rattle.world_parts.specs.declared.parts.Copying.{Copying}
 use Rattle.world_parts.specs.declared.parts.Flow.{Flow}
@@ -32,7 +32,12 @@ use Rattle.abi_machine.specs.Control.{Free}
 use Rattle.abi_machine.specs.Next.{next}
 use Rattle.abi_machine.specs.Reading as reading
 use Rattle.abi_machine.specs.Turn.{Turn, behind}
-use Rattle.abi_machine.specs.World.{Task, World}
+use Rattle.abi_machine.specs.World.{Task, World, first_world}
+use Rattle.abi_machine.specs.Run.{Reaches}
+use Rattle.abi_machine.specs.sound.Acting.{IsOrdered}
+use Rattle.abi_machine.specs.sound.Initial.{RunsAlone}
+use Rattle.abi_machine.proofs.sound.Alone.{first_runs_alone, stays_alone}
+use Rattle.abi_machine.proofs.sound.Ordered.{first_ordered, order_stays}
 use Rattle.standing.specs.Stands.{Stands}
 use Rattle.standing.specs.Agreeing.{enters, returns, copies, acting_words, control_of, control_at, Agrees}
 use Rattle.standing.specs.KeptMarks.{HasMarks}
@@ -273,6 +278,12 @@ module _ (p : Program) (values : List ValType) (s : Script) (h : Held) (piles : 
       rests_plain (Spent k) is = tt
       rests_plain kept.Stuck is = tt
 
+-- Who acts is as the control says, in each world that is reached.
+ordered_from : (g : Graph) (s : Script) (steps : List (List Label)) (w v : World) → RunsAlone w → IsOrdered w → Reaches g s w steps v → IsOrdered v
+ordered_from g s [] w v alone ordered r = subst IsOrdered (sym r) ordered
+ordered_from g s (labels ∷ steps) w v alone ordered r =
+    ordered_from g s steps r.0 v (stays_alone g s w r.0 labels alone r.1) (order_stays g s w r.0 labels alone ordered r.1) r.2
+
 -- Where the run is at a rest.
 module _ (p : Program) (values : List ValType) (s : Script) (h : Held) (piles : List PileView) (w : World) (reached : IsReached p.graph.now s w) (none : h.labels ≡ [])
     (at : AtRest p.graph.now values s h (stacks_at piles) [] w) where
@@ -303,7 +314,7 @@ module _ (p : Program) (values : List ValType) (s : Script) (h : Held) (piles : 
   rested rest.Goes d is m steps = moved rest.Goes d tt is m steps
   rested rest.Resumes d is m steps = moved rest.Resumes d tt is m steps
   rested rest.Back d is m steps = moved rest.Back d tt is m steps
-  rested rest.Runs d is m steps = run_steps_agree graph values s h piles w d none is at steps
+  rested rest.Runs d is m steps = run_steps_agree graph values s h piles w d (ordered_from graph s reached.0 (first_world graph) w (first_runs_alone graph) (first_ordered graph) reached.1) none is at steps
   rested (rest.Calls number) d is m steps = moved (rest.Calls number) d tt is m steps
   rested rest.Leaves d is m steps = moved rest.Leaves d tt is m steps
 

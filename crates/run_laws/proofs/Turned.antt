@@ -15,10 +15,10 @@ use Rattle.script_reader.specs.declared.script.Item.{Item}
 use Rattle.script_reader.specs.declared.script.Item.TheVariants as item
 use Rattle.script_reader.specs.Script.{Script}
 use Rattle.graph_views.specs.Callees.{kind_of}
-use Rattle.trace_show.specs.declared.label.Label.{Label}
-use Rattle.trace_show.specs.declared.label.Label.TheVariants as line
-use Rattle.trace_show.specs.declared.trap.TrapName.{TrapName}
-use Rattle.trace_show.specs.declared.typed.TypedValue.{TypedValue}
+use Rattle.trace_labels.specs.declared.label.Label.{Label}
+use Rattle.trace_labels.specs.declared.label.Label.TheVariants as line
+use Rattle.trace_labels.specs.declared.trap.TrapName.{TrapName}
+use Rattle.trace_labels.specs.declared.typed.TypedValue.{TypedValue}
 use Rattle.programs.specs.declared.program.CallNumbers.{CallNumbers}
 use Rattle.programs.specs.declared.program.Program.{Program}
 use Rattle.programs.specs.Typed as typed_by

@@ -16,8 +16,8 @@ use Rattle.res_handles.specs.Calls as handles
 use Rattle.waitables.specs.Sets.{left}
 use Rattle.comp_graph.specs.Graph.{Graph}
 use Rattle.script_reader.specs.Script.{Script}
-use Rattle.trace_show.specs.declared.label.Label.{Label}
-use Rattle.trace_show.specs.declared.label.Label.TheVariants as line
+use Rattle.trace_labels.specs.declared.label.Label.{Label}
+use Rattle.trace_labels.specs.declared.label.Label.TheVariants as line
 use Rattle.value_lift.specs.declared.moved.Moved.{Moved}
 use Rattle.value_lift.specs.declared.moved.Moved.TheVariants.{Lent, Taken}
 use Rattle.value_lift.specs.declared.trap.LiftTrap.{LiftTrap}

@@ -55,3 +55,4 @@ pub mod Passings
 pub mod Elements
 pub mod Steps
 pub mod Ends
+pub mod still

@@ -3,6 +3,7 @@ pub mod Known
 pub mod Kept
 pub mod Sets
 pub mod Begun
+pub mod Early
 pub mod Calls
 pub mod Moves
 pub mod Words
@@ -15,3 +16,4 @@ pub mod Arguments
 pub mod Fitting
 pub mod Fitted
 pub mod Memories
+pub mod FirstMemories

@@ -12,7 +12,7 @@ use Rattle.comp_graph.specs.declared.graph.CanonFunc.{CanonFunc}
 use Rattle.comp_graph.specs.Passed.{MayBeAt}
 use Rattle.comp_graph.specs.Graph.{Graph}
 use Rattle.script_reader.specs.Script.{Script}
-use Rattle.trace_show.specs.declared.label.Label.{Label}
+use Rattle.trace_labels.specs.declared.label.Label.{Label}
 use Rattle.programs.specs.declared.program.Program.{Program}
 use Rattle.programs.specs.Program.{resources_of}
 use Rattle.copy_replies.specs.declared.moving.CopySide.{CopySide}

@@ -24,3 +24,9 @@ pub mod Steps
 pub mod keeping
 pub mod Whole
 pub mod Supplied
+pub mod SuppliedEarly
+pub mod SuppliedMemories
+pub mod SuppliedWorlds
+pub mod SuppliedPassings
+pub mod Carried
+pub mod Left

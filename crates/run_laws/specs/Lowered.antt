@@ -7,7 +7,7 @@ use Rattle.ca_types.specs.declared.types.ValType.{ValType}
 use Rattle.value_lower.specs.Plan as lower
 use Rattle.comp_graph.specs.Graph.{Graph}
 use Rattle.script_reader.specs.Script.{Script}
-use Rattle.trace_show.specs.declared.label.Label.{Label}
+use Rattle.trace_labels.specs.declared.label.Label.{Label}
 use Rattle.task_table.specs.declared.slot.TaskSlot.{TaskSlot}
 use Rattle.world_parts.specs.Held as kept
 use Rattle.world_parts.specs.Held.{Held, Done, Gives, Traps, Spent}

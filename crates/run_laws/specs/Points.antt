@@ -6,7 +6,7 @@ use Rattle.ca_types.specs.declared.types.ValType.{ValType}
 use Rattle.wasm_store.specs.Stack.{Stack}
 use Rattle.comp_graph.specs.Graph.{Graph}
 use Rattle.script_reader.specs.Script.{Script}
-use Rattle.trace_show.specs.declared.label.Label.{Label}
+use Rattle.trace_labels.specs.declared.label.Label.{Label}
 use Rattle.world_parts.specs.Held as kept
 use Rattle.world_parts.specs.Held.{Held, Done, Gives, Traps, Spent}
 use Rattle.world_stacks.specs.Views.{PileView, stacks_of}
@@ -16,6 +16,7 @@ use Rattle.machine_runs.specs.declared.stepping.Step.{Step}
 use Rattle.machine_runs.specs.declared.stepping.Step.TheVariants as step
 use Rattle.machine_runs.specs.Moving.{acting_of}
 use Rattle.machine_runs.specs.Worlds.{Point}
+use Rattle.abi_machine.specs.declared.run_end.RunEnd.{RunEnd}
 use Rattle.abi_machine.specs.declared.run_end.RunEnd.TheVariants.{Fuel, Trapped}
 use Rattle.abi_machine.specs.World.{World}
 use Rattle.abi_machine.specs.Reading.{acting, func_of, kind_of}
@@ -82,9 +83,19 @@ pub record ReachesTurn (g : Graph) (s : Script) (lines : List Label) (w : World)
   pub same_lines : lines ≡ lines_of steps
   pub is_next : next g s world ≡ turn
 
+-- It reaches a world for which what is kept stands, with some stacks, and there it ends.
+pub record ReachesEnd (g : Graph) (values : List ValType) (s : Script) (lines : List Label) (w : World) (end : RunEnd) (k : Held) : Type 0 where
+  pub steps : List (List Label)
+  pub world : World
+  pub reached : Reaches g s w steps world
+  pub same_lines : lines ≡ lines_of steps
+  pub is_next : next g s world ≡ Ends end
+  pub stacks : List (List Stack)
+  pub stands : Stands g values s k stacks world
+
 abbrev pub StepAgrees : Graph → List ValType → Script → List Label → World → Done (Step × List PileView) → Type 0
 StepAgrees g values s ahead w (Gives (step.GoesOn x, piles) k) = ReachesPoint g values s ahead w (record { held = k; piles = piles; passing = x })
-StepAgrees g values s ahead w (Gives (step.Ends, piles) k) = ReachesTurn g s (ahead ++ k.labels) w (Ends (end_by k.live))
-StepAgrees g values s ahead w (Traps why k) = (t : ℕ) × (acting_of k ≡ Some t) × ReachesTurn g s (ahead ++ k.labels) w (Ends (Trapped t why))
+StepAgrees g values s ahead w (Gives (step.Ends, piles) k) = ReachesEnd g values s (ahead ++ k.labels) w (end_by k.live) k
+StepAgrees g values s ahead w (Traps why k) = (t : ℕ) × (acting_of k ≡ Some t) × ReachesEnd g values s (ahead ++ k.labels) w (Trapped t why) k
 StepAgrees g values s ahead w (Spent k) = ReachesTurn g s (ahead ++ k.labels) w (Ends Fuel)
 StepAgrees g values s ahead w kept.Stuck = (lines : List Label) × ReachesTurn g s lines w turns.Stuck

@@ -1,6 +1,6 @@
 -- What laws of reached worlds give of a call of a canonical function (Component Model, CanonicalABI.md, "Canonical Definitions"; Concurrency.md, "Summary"):
 -- once all is instantiated the acting task acts, and runs a function of the component instance that made that one; callers run functions, sets were made,
--- and subtasks run functions. What no law gives yet is named.
+-- and subtasks run functions. What else is asked is named.
 use Rattle.std.specs.Prelude.{◌≡◌, ℕ, true, List, Some, IsSome}
 use Rattle.std.specs.List.{slice_get}
 use Rattle.ca_types.specs.declared.types.ValType.{ValType}
@@ -8,7 +8,7 @@ use Rattle.wasm_store.specs.Stack.{Stack}
 use Rattle.comp_graph.specs.declared.graph.CanonFunc.{CanonFunc}
 use Rattle.comp_graph.specs.Graph.{Graph, Lifted}
 use Rattle.script_reader.specs.Script.{Script}
-use Rattle.trace_show.specs.declared.label.Label.{Label}
+use Rattle.trace_labels.specs.declared.label.Label.{Label}
 use Rattle.world_parts.specs.Held.{Held}
 use Rattle.abi_machine.specs.Control.{Calls}
 use Rattle.abi_machine.specs.World.{OfSubtask, Task, World, first_world}
@@ -40,7 +40,7 @@ CallsAreOwn =
 abbrev pub CallersRunThere : Type 0
 CallersRunThere = (g : Graph) (s : Script) (steps : List (List Label)) (w : World) → IsApart g → Reaches g s (first_world g) steps w → CallersRun w
 
--- The component instances of all functions that run are there; and, which no law gives yet, a task is no subtask in the table of the instance in which it
+-- The component instances of all functions that run are there; and, besides, a task is no subtask in the table of the instance in which it
 -- runs, no end that was dropped stands in a table, and a copy that is to be told is waited for directly exactly where its call waits.
 pub record StillAsked (g : Graph) (w : World) (t at : ℕ) : Type 0 where
   pub instances : (n : ℕ) (task : Task) (f : Lifted) → slice_get w.tasks n ≡ Some task → func_of task.callee ≡ Some f → IsSome (slice_get w.insts f.instance)

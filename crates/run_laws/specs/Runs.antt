@@ -4,7 +4,7 @@ use Rattle.std.specs.Prelude.{◌≡◌, List, []}
 use Rattle.ca_types.specs.declared.types.ValType.{ValType}
 use Rattle.comp_graph.specs.Graph.{Graph}
 use Rattle.script_reader.specs.Script.{Script}
-use Rattle.trace_show.specs.declared.label.Label.{Label}
+use Rattle.trace_labels.specs.declared.label.Label.{Label}
 use Rattle.world_parts.specs.declared.parts.Rest.TheVariants as rest
 use Rattle.world_parts.specs.Held as kept
 use Rattle.world_parts.specs.Held.{Held, Done, Gives, Traps, Spent}
@@ -12,6 +12,7 @@ use Rattle.world_stacks.specs.Views.{PileView}
 use Rattle.machine_runs.specs.declared.stepping.Step.{Step}
 use Rattle.machine_runs.specs.Stepping.{RunSteps}
 use Rattle.abi_machine.specs.World.{World}
+use Rattle.abi_machine.specs.sound.Acting.{IsOrdered}
 use Rattle.run_laws.specs.Points.{AtRest, stacks_at, StepAgrees}
 
 -- A step agrees, where a rule applies.
@@ -24,4 +25,4 @@ RuleAgrees g values s ahead w kept.Stuck = Unit {0}
 abbrev pub RunStepsAgree : Type 0
 RunStepsAgree =
     (g : Graph) (values : List ValType) (s : Script) (h : Held) (piles : List PileView) (w : World) (d : Done (Step × List PileView))
-    → h.labels ≡ [] → h.rest ≡ rest.Runs → AtRest g values s h (stacks_at piles) [] w → RunSteps piles h d → RuleAgrees g values s [] w d
+    → IsOrdered w → h.labels ≡ [] → h.rest ≡ rest.Runs → AtRest g values s h (stacks_at piles) [] w → RunSteps piles h d → RuleAgrees g values s [] w d

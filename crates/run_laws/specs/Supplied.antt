@@ -1,7 +1,7 @@
 -- What is asked of a move, of what is kept where a run rests (Component Model, CanonicalABI.md; Concurrency.md, "Summary"), where it follows from three things: what is
 -- kept stands for a world, its marks are right, and a run reaches that world. By where the run rests: task 0 instantiates, a task is new, goes on, is back, calls or
 -- exits. What else is asked is named, each by itself.
-use Rattle.std.specs.Prelude.{◌≡◌, ◌≢◌, ◌⊎◌, ◌<◌, ℕ, suc, true, false, List, [], ◌∷◌, Option, Some, None, IsSome}
+use Rattle.std.specs.Prelude.{◌≡◌, ◌≢◌, ◌⊎◌, ℕ, true, false, List, Option, Some, None, IsSome}
 use Rattle.std.specs.List.{slice_get}
 use Rattle.ca_types.specs.declared.types.FuncType.{FuncType}
 use Rattle.ca_types.specs.declared.types.ValType.{ValType}
@@ -9,8 +9,6 @@ use Rattle.ca_types.specs.declared.value.Value.{Value}
 use Rattle.laid_types.specs.Known.{Numbered}
 use Rattle.wasm_store.specs.Stack.{Stack}
 use Rattle.wasm_store.specs.Store.{Instance}
-use Rattle.comp_graph.specs.declared.graph.Action.{Action}
-use Rattle.comp_graph.specs.declared.graph.Action.TheVariants.{Begin, Make}
 use Rattle.comp_graph.specs.declared.graph.CanonFunc.{CanonFunc}
 use Rattle.comp_graph.specs.declared.graph.CoreRef.{CoreRef}
 use Rattle.comp_graph.specs.declared.graph.Options.{Options}
@@ -35,8 +33,8 @@ use Rattle.abi_machine.specs.World.{OfSubtask, Callee, Func, Destroys, Guest, Su
 use Rattle.abi_machine.specs.Canons.{canon_at, inst_of_canon, options_at, defines}
 use Rattle.abi_machine.specs.Passing.{params_type}
 use Rattle.abi_machine.specs.Reading.{entry_at, func_of, runs_in, may_leave}
-use Rattle.abi_machine.specs.sound.GraphFuncs.{IsOfGraph}
 use Rattle.abi_machine.specs.sound.Words.{IsPassed}
+pub use Rattle.reach_laws.specs.KnownPlans.{begins, InstancesBegin}
 use Rattle.reach_laws.specs.Runnable.{IsRunnable}
 use Rattle.standing.specs.Agreeing.{control_at}
 use Rattle.standing.specs.Channels.{HasMarkedEnds}
@@ -101,15 +99,6 @@ pub record CallStillAsked (g : Graph) (h : Held) (w : World) (number : ℕ) : Ty
 
 -- That component instances are there follows from that the plan of the graph begins those that its functions and canonical functions name: by the time when all is
 -- instantiated it has begun all, and until then task 0 is alone.
-abbrev pub begins : List Action → ℕ
-begins [] = 0
-begins (Begin number ∷ plan) = suc (begins plan)
-begins (Make number ∷ plan) = begins plan
-
-pub record InstancesBegin (g : Graph) : Type 0 where
-  pub canons : (number : ℕ) (c : CanonFunc) → canon_at g number ≡ Some c → inst_of_canon c < begins g.plan
-  pub functions : (callee : Callee) (f : Lifted) → IsOfGraph g callee → func_of callee ≡ Some f → f.instance < begins g.plan
-
 abbrev pub InstancesAreThere : Type 0
 InstancesAreThere =
     (g : Graph) (values : List ValType) (s : Script) (h : Held) (stacks : List (List Stack)) (w : World) → StandsReached g values s h stacks w → InstancesBegin g → InstancesThere w
@@ -188,7 +177,7 @@ abbrev pub OthersHearNothing : Type 0
 OthersHearNothing =
     (g : Graph) (types : List (Option ℕ)) (r : Rest) (h : Held) (what : Flow) (k : Held) (v : World) (t : ℕ) → IsNoResume r → woken g types r h ≡ Gives what k → HearsBy g k v t what
 
--- So all that is asked of a move is, by where the run rests, with what no law gives yet.
+-- So all that is asked of a move is, by where the run rests, with what is asked besides.
 abbrev pub MoveStillAsked : Program → List ValType → Held → World → Rest → Type 0
 MoveStillAsked p values h w (rest.Instantiates number) = Unit {0}
 MoveStillAsked p values h w rest.Free = ⊥

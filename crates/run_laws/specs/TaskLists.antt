@@ -71,7 +71,7 @@ pub record ListsMarked (s : Script) (live watched numbers : List ℕ) (count : �
 abbrev pub HasLists : Script → Held → Type 0
 HasLists s h = ListsMarked s h.live h.watched h.calls h.taken h.tasks
 
--- The component instances of all functions that run are there; and, which no law gives yet of each world, a copy that is to be told is waited for directly
+-- The component instances of all functions that run are there; and, besides, a copy that is to be told is waited for directly
 -- exactly where its call waits, and ends are marked.
 pub record StillAskedOfTurns (g : Graph) (h : Held) (w : World) : Type 0 where
   pub instances :

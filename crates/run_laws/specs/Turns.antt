@@ -8,7 +8,7 @@ use Rattle.comp_graph.specs.Graph.{Graph, Lifted, func_at, func_named}
 use Rattle.script_reader.specs.declared.script.Call.{Call}
 use Rattle.script_reader.specs.declared.script.Item.TheVariants as item
 use Rattle.script_reader.specs.Script.{Script}
-use Rattle.trace_show.specs.declared.label.Label.{Label}
+use Rattle.trace_labels.specs.declared.label.Label.{Label}
 use Rattle.programs.specs.declared.program.CallNumbers.{CallNumbers}
 use Rattle.programs.specs.declared.program.Program.{Program}
 use Rattle.world_parts.specs.Held.{Held}

@@ -2,9 +2,10 @@
 -- has a run of the same graph and script with the same lines, in the same order, and with the same end.
 use Rattle.std.specs.Prelude.{◌≡◌, ℕ, List}
 use Rattle.ca_types.specs.declared.types.ValType.{ValType}
+use Rattle.wasm_store.specs.Stack.{Stack}
 use Rattle.comp_graph.specs.Graph.{Graph}
 use Rattle.script_reader.specs.Script.{Script}
-use Rattle.trace_show.specs.declared.label.Label.{Label}
+use Rattle.trace_labels.specs.declared.label.Label.{Label}
 use Rattle.programs.specs.declared.program.Program.{Program}
 use Rattle.world_parts.specs.Held.{Held}
 use Rattle.value_moves.specs.Passing.{Passes}
@@ -15,6 +16,7 @@ use Rattle.abi_machine.specs.declared.run_end.RunEnd as machine_end
 use Rattle.abi_machine.specs.declared.run_end.RunEnd.TheVariants.{Done, Trapped, Deadlock, Fuel}
 use Rattle.abi_machine.specs.World.{World}
 use Rattle.abi_machine.specs.Run.{Runs, trace_of}
+use Rattle.standing.specs.Stands.{Stands}
 use Rattle.run_laws.specs.Points.{InPoint}
 use Rattle.run_laws.specs.Steps.{MayStep, IsReached}
 
@@ -43,6 +45,11 @@ pub record IsOfMachine (g : Graph) (s : Script) (lines : List Label) (end : RunE
   pub runs : Runs g s told last by
   pub same_lines : lines ≡ trace_of told by
   pub same_end : end ≡ end_of by
+
+-- What is left behind it stands for the last world of the machine's run, with some stacks, but where fuel was wanting: there a part of the last step of what is kept is done.
+pub record LeavesWorld (g : Graph) (values : List ValType) (s : Script) (lines : List Label) (end : RunEnd) (h : Held) : Type 0 where
+  pub run : IsOfMachine g s lines end
+  pub stands : (end ≡ kept_end.Fuel → ⊥) → (stacks : List (List Stack)) × Stands g values s h stacks run.last
 
 abbrev pub WholeRunsAgree : Type 0
 WholeRunsAgree =

@@ -19,3 +19,4 @@ pub mod Lowerings
 pub mod Passings
 pub mod Steps
 pub mod Ends
+pub mod Still

@@ -21,7 +21,7 @@ pub fn calls_agree()
 {}
 
 /// What each canonical function answers is what the machine answers, and so is the whole call: of each built-in, up to where values are to be passed or an
-/// event comes, and of a function that is lowered. It asks that what is kept beside the world is right, and some facts of the world that no law gives yet.
+/// event comes, and of a function that is lowered. It asks that what is kept beside the world is right, and some facts of the world.
 pub fn all_answer()
     ensures rows { AllAnswer }
     ensures call { CallIsAnswered }

@@ -22,26 +22,40 @@
 //! built-ins keep of what is said of ends. `specs/keeping/Well` has what else of tasks and calls every part keeps, and
 //! `specs/keeping/WellKept` that it does, and `specs/keeping/Hearing` what stays of subtasks where an event is to come. What of that which they ask follows
 //! from that what is kept stands for a world, or from that a run reaches that world, is in `specs/keeping/Supplied` and `specs/keeping/CancelsKept`; and
-//! `specs/Supplied` has what is asked of a move where both are so and the marks are right. That each step keeps the lists of tasks is in `specs/keeping/Lists`.
+//! `specs/Supplied` has what is asked of a move where both are so and the marks are right, `specs/SuppliedWorlds` and `specs/SuppliedEarly` what follows of
+//! reached worlds, `specs/SuppliedMemories` what of graphs that can run, and `specs/SuppliedPassings` what is asked where values are passed. That each step keeps the lists of tasks is in `specs/keeping/Lists`, and that it
+//! keeps memories, and ends where no values are passed, in `specs/keeping/Still`. `specs/Carried` joins all this: what is carried from point to point of a run, so that
+//! the run is the machine's; and `specs/Left` has what it leaves.
 //!
+//! - `carried`: what is carried from point to point of a run, and whole runs
 //! - `dispatch`: calls of canonical functions
+//! - `knowing`: what is asked of a move, from that a run reaches the world
 //! - `lifting`: values that are lifted
 //! - `marking`: what keeps all marks
 //! - `running`: runs of core code, instantiation, lowerings, copies, tasks that enter, and results
+//! - `staying`: what every step keeps beside marks of tasks
 //! - `stepping`: ends of core functions that are lifted with `async`, destructors, values that are passed, steps as a whole, and whole runs
 //! - `supplying`: what is asked of a move, where a run reaches the world
 //! - `turns`: turns, where no task runs
 #![tactic(auto)]
 
+mod carried;
 mod dispatch;
+mod knowing;
 mod lifting;
 mod marking;
 mod running;
+mod staying;
 mod stepping;
 mod supplying;
 mod turns;
 
+pub use carried::{
+    dumps_agree, ends_are_supplied, passings_are_supplied, programs_pass, runs_are_carried,
+    runs_are_of_machine,
+};
 pub use dispatch::{all_answer, calls_agree, canons_alike, marks_last, worlds_supply};
+pub use knowing::{early_calls_are_inside, worlds_are_supplied};
 pub use lifting::{indices_agree, liftings_agree};
 pub use marking::{
     acting_keeps_all_marks, answers_keep_all_marks, cancels_are_kept, end_builtins_keep_ends,
@@ -53,6 +67,9 @@ pub use marking::{
 pub use running::{
     copies_are_completed, copies_transfer, elements_go_over, elements_stand, instantiation_agrees,
     lowerings_stand, results_pass, run_steps_agree, tasks_enter,
+};
+pub use staying::{
+    ends_are_kept, handles_alone_are_lent, memories_stay, moves_keep_ends, places_are_kept,
 };
 pub use stepping::{
     async_functions_end, destructors_pass, passings_lead, steps_are_made, whole_runs_agree,

@@ -1,6 +1,6 @@
 //! Values that are lifted over what is kept, under premises that `specs/Taking` and `specs/Lifted` name with each law: how often handles are lent and
 //! what entries tell of ends is kept right, and a type that holds a borrow is lifted where its callers lend. Liftings keep the first two. Of lends all steps
-//! do (`steps_keep_all_marks`); of ends that is not proved yet.
+//! do (`steps_keep_all_marks`); of ends that is proved but where elements go over (`staying`).
 
 ghost use Rattle.run_laws.specs.Lifted.{ArgumentsLift, ResultsLift, ElementsLift};
 ghost use Rattle.run_laws.specs.Taking.{ViewsAreAlike, EndTypesAreAlike, HandleLeaves, EndLeaves, HandleIsLent};

@@ -11,7 +11,7 @@ ghost use Rattle.run_laws.specs.Runs.{RunStepsAgree};
 ghost use Rattle.run_laws.specs.Transfers.{CopiesTransfer};
 
 /// Where the acting task's stack is to run, and a rule applies, a step of the kept machine does what the machine does by its turns: up to a call, to
-/// the end of the stack, to a trap, or to the end of the run where fuel is wanting.
+/// the end of the stack, to a trap, or to the end of the run where fuel is wanting. It asks that the acting task is the one that control tells (`IsOrdered`).
 pub fn run_steps_agree()
     ensures { RunStepsAgree }
 {}

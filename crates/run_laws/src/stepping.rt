@@ -30,14 +30,15 @@ pub fn passings_lead()
 /// Whatever a step of the kept machine comes to, from any point, where a rule applies, the machine comes to by its steps: where no task runs, where a
 /// stack runs, where task 0 instantiates, where a task moves or calls a canonical function, and where values are to be passed. It asks that what is kept
 /// is right where the step reads it; and, where no task runs, that the tasks which can go on are the same on both sides and that a cancellation of the
-/// script is taken as the machine takes it, which `turns_are_kept` gives. Of a step that ends the run it says the lines and the end.
+/// script is taken as the machine takes it, which `turns_are_kept` gives. Of a step that ends the run it says the
+/// lines and the end, and, but for want of fuel, that what is left stands for the world.
 pub fn steps_are_made()
     ensures { StepIsMade }
 {}
 
 /// A run of the kept machine, from before its program's graph is instantiated, is the run of the machine: it has the same lines in the same order, the last one
 /// among them, and the same end. So two programs of one graph and script have the same run. It asks that a step may be made at each point that the run
-/// reaches, as `steps_are_made` says; that all of this holds of each run is not proved yet. Of what a run leaves it says nothing.
+/// reaches, as `steps_are_made` says: `runs_are_of_machine` says of which runs that is known. Of what a run leaves it says nothing.
 pub fn whole_runs_agree()
     ensures agree { WholeRunsAgree }
     ensures one { ProgramsAgree }

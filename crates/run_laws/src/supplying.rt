@@ -7,7 +7,7 @@ use reach_laws::{reached_worlds_are_typed, steps_are_fed};
 
 /// Where what is kept of a run that rests stands for a world that a run reaches, and its marks are right, what is asked of the acting task is so: where task 0
 /// instantiates, where a task is new, goes on, by what it was blocked at, is back from a call or a cancellation, calls a canonical function, and where it exits. It asks that the component
-/// instances of the functions that tasks run are there, and some more that no law gives yet, each named.
+/// instances of the functions that tasks run are there, and some more, each named.
 pub fn rests_are_supplied()
     ensures instantiates { InstantiatesSupplied }
     ensures arrives { ArrivesSupplied }
@@ -24,7 +24,7 @@ pub fn events_are_supplied()
     ensures others { OthersHearNothing }
 {}
 
-/// So all that is asked of a move is so, wherever the run rests, with what no law gives yet.
+/// So all that is asked of a move is so, wherever the run rests, with what is asked besides.
 pub fn moves_are_supplied()
     ensures { MovesAreSupplied }
 {}

@@ -16,8 +16,8 @@ use Rattle.res_handles.specs.Calls.{own_handle}
 use Rattle.res_handles.specs.Refusals.{handle_in, rep_of}
 use Rattle.comp_graph.specs.Graph.{Graph}
 use Rattle.script_reader.specs.Script.{Script}
-use Rattle.trace_show.specs.declared.trap.TrapName.{TrapName}
-use Rattle.trace_show.specs.declared.trap.TrapName.TheVariants as trap
+use Rattle.trace_labels.specs.declared.trap.TrapName.{TrapName}
+use Rattle.trace_labels.specs.declared.trap.TrapName.TheVariants as trap
 use Rattle.instances.specs.declared.entry.WorldEntry.{WorldEntry}
 use Rattle.instances.specs.declared.entry.WorldEntry.TheVariants as entry
 use Rattle.instances.specs.Entries as entries
@@ -94,6 +94,7 @@ word_put g s x a slot word st = record {
   resolved = st.resolved;
   cancelled = st.cancelled;
   words = ap (λ (c : ℕ × ℕ). slots.word_changed slot word c) st.words ∙ changed_same slot word a.context;
+  placed = st.placed;
 }
 
 pub context_is_set : ContextIsSet

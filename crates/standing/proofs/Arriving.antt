@@ -14,10 +14,10 @@ use Rattle.tasks.specs.declared.phase.Phase.TheVariants as phase
 use Rattle.tasks.specs.Tasks.{may_happen, is_new}
 use Rattle.comp_graph.specs.Graph.{Graph, Lifted}
 use Rattle.script_reader.specs.Script.{Script}
-use Rattle.trace_show.specs.declared.label.BlockReason.{BlockReason}
-use Rattle.trace_show.specs.declared.label.BlockReason.TheVariants as reason
-use Rattle.trace_show.specs.declared.label.Label.{Label}
-use Rattle.trace_show.specs.declared.label.Label.TheVariants as line
+use Rattle.trace_labels.specs.declared.label.BlockReason.{BlockReason}
+use Rattle.trace_labels.specs.declared.label.BlockReason.TheVariants as reason
+use Rattle.trace_labels.specs.declared.label.Label.{Label}
+use Rattle.trace_labels.specs.declared.label.Label.TheVariants as line
 use Rattle.instances.specs.Instances.{with_gate}
 use Rattle.task_table.specs.declared.slot.TaskSlot.{TaskSlot}
 use Rattle.task_table.specs.Slots as slots
@@ -38,7 +38,7 @@ use Rattle.abi_machine.specs.Reading.{task_at, func_of}
 use Rattle.abi_machine.specs.Turn as turns
 use Rattle.abi_machine.specs.Turn.{Turn, behind}
 use Rattle.abi_machine.specs.Entering.{entered, arriving_turn}
-use Rattle.standing.specs.Tasks.{errand_of, TaskStands}
+use Rattle.standing.specs.Tasks.{errand_of, IsPlaced, TaskStands}
 use Rattle.standing.specs.Stands.{Stands}
 use Rattle.standing.specs.Agreeing.{enters, Agrees}
 use Rattle.standing.specs.Moves.{Acts, TaskArrives}
@@ -51,8 +51,8 @@ use Rattle.standing.proofs.Steps.{via, turn_found, if_true, if_false, both_as, b
 
 -- The acting task blocks, and is at what it was at.
 waits_stand : (g : Graph) (s : Script) (x : TaskSlot) (a : Task) (why : BlockedAt) (flag : Bool) (state : TaskState) → phase_of (flag_at g) state ≡ phase.Blocked why flag
-    → errand_of state ≡ x.errand → TaskStands g s x a → TaskStands g s (slots.with_task (record x.task { phase = phase.Blocked why flag }) x) (record a { state = state })
-waits_stand g s x a why flag state far at st = record {
+    → errand_of state ≡ x.errand → IsPlaced x.at_words state → TaskStands g s x a → TaskStands g s (slots.with_task (record x.task { phase = phase.Blocked why flag }) x) (record a { state = state })
+waits_stand g s x a why flag state far at placed st = record {
   does = st.does;
   place = st.place;
   lifted = st.lifted;
@@ -63,18 +63,19 @@ waits_stand g s x a why flag state far at st = record {
   resolved = st.resolved;
   cancelled = st.cancelled;
   words = st.words;
+  placed = placed;
 }
 
 pub on_wait : (g : Graph) (values : List ValType) (s : Script) (before : List Label) (h : Held) (stacks : List (List Stack)) (w : World) (t : ℕ) (x : TaskSlot) (why : BlockedAt) (flag : Bool)
     (reason : BlockReason) (state : TaskState)
     → slice_get h.tasks t ≡ Some x → may_happen (event.Block why flag) x.task ≡ true → phase_of (flag_at g) state ≡ phase.Blocked why flag → errand_of state ≡ x.errand
-    → slice_get w.chain 0 ≡ Some t → h.labels ≡ before → Stands g values s h stacks w
+    → IsPlaced x.at_words state → slice_get w.chain 0 ≡ Some t → h.labels ≡ before → Stands g values s h stacks w
     → Agrees g values s t before stacks (blocked t why flag reason h) (turns.blocked t state reason w)
 unfolding blocked
-on_wait g values s before h stacks w t x why flag reason state is may far at first same st =
+on_wait g values s before h stacks w t x why flag reason state is may far at placed first same st =
     let waits : TaskSlot = slots.with_task (record x.task { phase = phase.Blocked why flag }) x in
     let now : Stands g values s (with_task t waits h) stacks (in_state t state w) =
-    tasks_change g values s h stacks w t x waits (λ task. record task { state = state }) is (λ a there st. waits_stand g s x a why flag state far at st) (λ a. refl) st in
+    tasks_change g values s h stacks w t x waits (λ task. record task { state = state }) is (λ a there st. waits_stand g s x a why flag state far at placed st) (λ a. refl) st in
     done_as g values s t before stacks _ _ _
     (via _ _ _ (λ done k. after (told (line.Block t reason) k) (λ done l. left_chain l)) (happens_when (event.Block why flag) x t h is may refl))
     (on_leave g values s t before stacks (with_task t waits h) (in_state t state w) (line.Block t reason) t first same now)
@@ -124,7 +125,7 @@ arrives_by g values s h stacks w t task f k false acts new e may st =
     ∙ via _ _ _ _ (waited_is f.instance h k.inst k.here) ∙ via _ _ _ _ (parked_is t k.slot.task.kind waits))
     (func_acts w t task f (λ t task f. if may_arrive w f.instance task then entered g t task f w else turns.blocked t WaitsToEnter reason.Entry w) acts ∙ if_false _ _ _ e)
     (on_wait g values s h.labels (watched_by (needs_entry k.slot.task.kind) t waits) stacks w t k.slot blocked_at.Entry false reason.Entry WaitsToEnter k.is
-    (ap is_new (k.alike.far ∙ ap (λ state. phase_of (flag_at g) state) new)) refl (sym (k.alike.at ∙ ap errand_of new)) acts.first refl waiting)
+    (ap is_new (k.alike.far ∙ ap (λ state. phase_of (flag_at g) state) new)) refl (sym (k.alike.at ∙ ap errand_of new)) tt acts.first refl waiting)
 
 pub task_arrives : TaskArrives
 task_arrives g values s h stacks w t task f acts new gates st =

@@ -20,7 +20,7 @@ use Rattle.tasks.specs.Tasks.{phase_case, cancel_case, may_cancel, is_unasked, r
 use Rattle.tasks.specs.Tasks as task_of
 use Rattle.comp_graph.specs.Graph.{Graph, Lifted}
 use Rattle.script_reader.specs.Script.{Script}
-use Rattle.trace_show.specs.declared.label.Label.TheVariants as line
+use Rattle.trace_labels.specs.declared.label.Label.TheVariants as line
 use Rattle.instances.specs.Instances.{InstanceView, with_gate}
 use Rattle.task_table.specs.declared.errand.Errand.TheVariants as errand
 use Rattle.task_table.specs.declared.slot.TaskSlot.{TaskSlot}
@@ -93,6 +93,7 @@ asked_stands g s x a st = record {
   resolved = st.resolved;
   cancelled = refl;
   words = st.words;
+  placed = st.placed;
 }
 
 removed_stands : (g : Graph) (s : Script) (x : TaskSlot) (a : Task) → x.errand ≡ errand.None → TaskStands g s x a
@@ -108,6 +109,7 @@ removed_stands g s x a none st = record {
   resolved = refl;
   cancelled = st.cancelled;
   words = st.words;
+  placed = tt;
 }
 
 -- It is asked, on what is kept.

@@ -11,8 +11,8 @@ use Rattle.tasks.specs.Tasks.{is_acting, state_of}
 use Rattle.tasks.specs.Subtasks.{is_over}
 use Rattle.comp_graph.specs.Graph.{Graph, Lifted}
 use Rattle.script_reader.specs.Script.{Script}
-use Rattle.trace_show.specs.declared.label.BlockReason.TheVariants as reason
-use Rattle.trace_show.specs.declared.trap.TrapName.TheVariants as trap
+use Rattle.trace_labels.specs.declared.label.BlockReason.TheVariants as reason
+use Rattle.trace_labels.specs.declared.trap.TrapName.TheVariants as trap
 use Rattle.instances.specs.declared.entry.WorldEntry.TheVariants as entry
 use Rattle.instances.specs.Instances as instance
 use Rattle.instances.specs.Instances.{InstanceView}
@@ -78,6 +78,7 @@ rests_stand g s x a acts st = record {
   resolved = st.resolved;
   cancelled = st.cancelled;
   words = st.words;
+  placed = tt;
 }
 
 abbrev at_none : ℕ → TaskSlot → Held → Held
@@ -162,7 +163,7 @@ on_open g values s v h stacks w t at callee number words x slot called one i y t
 on_open g values s v h stacks w t at callee number words x slot called one i y false is flags is_slot acts first call here there alike st =
     both_as g values s t h.labels stacks _ _ _ _ (if_false _ _ _ is) refl
     (on_blocked g values s h stacks w t x (blocked_at.Call callee) (v.flag number) (reason.Call callee) (InBuiltin number words (ForCall callee)) (errand.InBuiltin number) is_slot refl
-    (ap is_acting acts) (ap (phase.Blocked (blocked_at.Call callee)) (sym flags)) refl first st)
+    (ap is_acting acts) (ap (phase.Blocked (blocked_at.Call callee)) (sym flags)) refl tt first st)
 
 pub back_from_a_call : BackFromCall
 unfolding back_to back_from_call machine.back_from_call
@@ -199,7 +200,7 @@ on_cancel_open g values s v h stacks w t at callee number words x slot called fa
     both_as g values s t h.labels stacks _ _ _ _ (if_false _ _ _ is ∙ via _ _ _ _ (awaited_is true h at callee slot called call)) (if_false _ _ _ flags)
     (on_blocked g values s waits stacks w t x (blocked_at.Cancel (first_of words)) (v.flag number) (reason.Cancel (first_of words)) (InBuiltin number words (ForCancel (first_of words)))
     (errand.InBuiltin number) (other_get h.tasks callee t (awaited_slot true slot) apart ∙ is_slot) refl (ap is_acting acts)
-    (ap (phase.Blocked (blocked_at.Cancel (first_of words))) (flags ∙ sym is)) refl first
+    (ap (phase.Blocked (blocked_at.Cancel (first_of words))) (flags ∙ sym is)) refl tt first
     (tasks_stay g values s h stacks w callee slot (awaited_slot true slot) call.there (λ a now. awaited_stands g s true slot a now) st))
 
 pub back_from_a_cancel : BackFromCancel

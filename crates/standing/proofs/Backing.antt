@@ -8,7 +8,7 @@ use Rattle.tasks.specs.declared.event.BlockedAt.TheVariants as blocked_at
 use Rattle.tasks.specs.declared.phase.Phase.TheVariants as phase
 use Rattle.comp_graph.specs.Graph.{Graph}
 use Rattle.script_reader.specs.Script.{Script}
-use Rattle.trace_show.specs.declared.label.Label.{Label}
+use Rattle.trace_labels.specs.declared.label.Label.{Label}
 use Rattle.instances.specs.declared.entry.WorldEntry.{WorldEntry}
 use Rattle.instances.specs.declared.entry.WorldEntry.TheVariants as entry
 use Rattle.instances.specs.Entries as entries
@@ -139,6 +139,7 @@ awaited_stands g s b x a st = record {
   resolved = st.resolved;
   cancelled = st.cancelled;
   words = st.words;
+  placed = st.placed;
 }
 
 pub awaited_is : (b : Bool) (h : Held) (at callee : ℕ) (slot : TaskSlot) (called : Called) → CallKept h at callee slot called

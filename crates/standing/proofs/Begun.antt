@@ -8,8 +8,8 @@ use Rattle.entry_gate.specs.declared.kind.Kind.{Kind}
 use Rattle.tasks.specs.declared.phase.Phase.TheVariants as phase
 use Rattle.comp_graph.specs.Graph.{Graph, Lifted}
 use Rattle.script_reader.specs.Script.{Script}
-use Rattle.trace_show.specs.declared.label.Label.TheVariants as line
-use Rattle.trace_show.specs.declared.trap.TrapName.TheVariants as trap
+use Rattle.trace_labels.specs.declared.label.Label.TheVariants as line
+use Rattle.trace_labels.specs.declared.trap.TrapName.TheVariants as trap
 use Rattle.task_table.specs.declared.caller.Caller as kept_caller
 use Rattle.task_table.specs.declared.caller.Caller.TheVariants as caller
 use Rattle.task_table.specs.declared.errand.Callee as runs
@@ -104,6 +104,7 @@ new_stands g s t canon instance made callee kind passed does f is runs place lif
   resolved = refl;
   cancelled = refl;
   words = refl;
+  placed = tt;
 }
 
 calls_stand : (g : Graph) (s : Script) (x : TaskSlot) (a : Task) (made canon : ℕ) (words : List ℕ) → x.task.phase ≡ phase.Acting → TaskStands g s x a
@@ -119,6 +120,7 @@ calls_stand g s x a made canon words acts st = record {
   resolved = st.resolved;
   cancelled = st.cancelled;
   words = st.words;
+  placed = tt;
 }
 
 pub changed_long : {A : Type 0} (n : ℕ) (f : A → A) (xs : List A) → length (changed_at n f xs) ≡ length xs

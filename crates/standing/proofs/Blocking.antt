@@ -17,10 +17,10 @@ use Rattle.tasks.specs.Tasks as task_of
 use Rattle.tasks.specs.Tasks.{may_happen, fault, is_acting, is_entry, is_asked}
 use Rattle.comp_graph.specs.Graph.{Graph}
 use Rattle.script_reader.specs.Script.{Script}
-use Rattle.trace_show.specs.declared.label.BlockReason.{BlockReason}
-use Rattle.trace_show.specs.declared.label.BlockReason.TheVariants as reason
-use Rattle.trace_show.specs.declared.label.Label.{Label}
-use Rattle.trace_show.specs.declared.label.Label.TheVariants as line
+use Rattle.trace_labels.specs.declared.label.BlockReason.{BlockReason}
+use Rattle.trace_labels.specs.declared.label.BlockReason.TheVariants as reason
+use Rattle.trace_labels.specs.declared.label.Label.{Label}
+use Rattle.trace_labels.specs.declared.label.Label.TheVariants as line
 use Rattle.task_table.specs.declared.errand.Errand.{Errand}
 use Rattle.task_table.specs.declared.errand.Errand.TheVariants as errand
 use Rattle.task_table.specs.declared.refusal.EventError.TheVariants.{NotNow}
@@ -46,7 +46,7 @@ use Rattle.abi_machine.specs.Turn.{Turn, Steps}
 use Rattle.abi_machine.specs.Delivering as machine
 use Rattle.abi_machine.specs.replies.Tasks.{yield_turn}
 use Rattle.abi_machine.proofs.sound.Found.{some_same}
-use Rattle.standing.specs.Tasks.{errand_of, TaskStands}
+use Rattle.standing.specs.Tasks.{errand_of, IsPlaced, TaskStands}
 use Rattle.standing.specs.Stands.{backwards, Stands}
 use Rattle.standing.specs.Agreeing.{acting_words, control_of, Agrees}
 use Rattle.standing.specs.Rows.{TaskYields}
@@ -88,6 +88,7 @@ told_stands g s x a st = record {
   resolved = st.resolved;
   cancelled = refl;
   words = st.words;
+  placed = st.placed;
 }
 
 pub yield_told : (g : Graph) (values : List ValType) (s : Script) (h : Held) (stacks : List (List Stack)) (w : World) (t : ℕ) (x : TaskSlot)
@@ -125,9 +126,9 @@ some_acts (u ∷ chain) t e = long_last (backwards chain) u
 
 -- The acting task blocks in a canonical function.
 blocked_stands : (g : Graph) (s : Script) (x : TaskSlot) (a : Task) (why : BlockedAt) (flag : Bool) (state : TaskState) (e : Errand)
-    → phase_of (flag_at g) state ≡ phase.Blocked why flag → errand_of state ≡ e → TaskStands g s x a
+    → phase_of (flag_at g) state ≡ phase.Blocked why flag → errand_of state ≡ e → IsPlaced x.at_words state → TaskStands g s x a
     → TaskStands g s (slots.with_task (record x.task { phase = phase.Blocked why flag }) (at_errand e x)) (record a { state = state })
-blocked_stands g s x a why flag state e far at st = record {
+blocked_stands g s x a why flag state e far at placed st = record {
   does = st.does;
   place = st.place;
   lifted = st.lifted;
@@ -138,20 +139,21 @@ blocked_stands g s x a why flag state e far at st = record {
   resolved = st.resolved;
   cancelled = st.cancelled;
   words = st.words;
+  placed = placed;
 }
 
 pub on_blocked : (g : Graph) (values : List ValType) (s : Script) (h : Held) (stacks : List (List Stack)) (w : World) (t : ℕ) (x : TaskSlot) (why : BlockedAt) (flag : Bool)
     (reason : BlockReason) (state : TaskState) (e : Errand)
     → slice_get h.tasks t ≡ Some x → is_entry why ≡ false → is_acting x.task.phase ≡ true → phase_of (flag_at g) state ≡ phase.Blocked why flag → errand_of state ≡ e
-    → slice_get w.chain 0 ≡ Some t → Stands g values s h stacks w
+    → IsPlaced x.at_words state → slice_get w.chain 0 ≡ Some t → Stands g values s h stacks w
     → Agrees g values s t h.labels stacks (after (errand_set t e h) (λ done k. blocked t why flag reason k)) (turns.blocked t state reason w)
 unfolding blocked
-on_blocked g values s h stacks w t x why flag reason state e is inside acts far at first st =
+on_blocked g values s h stacks w t x why flag reason state e is inside acts far at placed first st =
     let waits : TaskSlot = slots.with_task (record x.task { phase = phase.Blocked why flag }) (at_errand e x) in
     let set : Held = with_task t (at_errand e x) h in
     let may : may_happen (event.Block why flag) (at_errand e x).task ≡ true = ap (λ (b : Bool). if b then task_of.is_new x.task.phase else is_acting x.task.phase) inside ∙ acts in
     let once : Stands g values s (with_task t waits h) stacks (in_state t state w) =
-    tasks_change g values s h stacks w t x waits (λ task. record task { state = state }) is (λ a there now. blocked_stands g s x a why flag state e far at now) (λ a. refl) st in
+    tasks_change g values s h stacks w t x waits (λ task. record task { state = state }) is (λ a there now. blocked_stands g s x a why flag state e far at placed now) (λ a. refl) st in
     let twice : Stands g values s (with_task t waits set) stacks (in_state t state w) =
     subst (λ (ts : List TaskSlot). Stands g values s (record h { tasks = ts }) stacks (in_state t state w)) (sym (set-set h.tasks t (at_errand e x) waits)) once in
     let some : nat_lt 0 (length h.chain) ≡ true = ap (λ (chain : List ℕ). nat_lt 0 (length chain)) st.same_chain ∙ some_acts w.chain t first in
@@ -186,4 +188,4 @@ task_yields g values s v h stacks w t canon task words flags first there acts st
     (λ both. yield_told g values s h stacks w t x is_left (and_parts (v.flag canon) (is_asked x.task.cancellation) both).1 st)
     (λ no. on_blocked g values s h stacks w t x blocked_at.Yield (v.flag canon) reason.Yield (InBuiltin canon words ForYield) (errand.InBuiltin canon) is_left refl
     (ap is_acting (alike.far ∙ ap (λ (a : Task). phase_of (flag_at g) a.state) same ∙ ap (phase_of (flag_at g)) acts))
-    (ap (phase.Blocked blocked_at.Yield) (sym flags)) refl first st))
+    (ap (phase.Blocked blocked_at.Yield) (sym flags)) refl tt first st))

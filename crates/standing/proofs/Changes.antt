@@ -37,6 +37,7 @@ first_task g s instance = (
     resolved = refl;
     cancelled = refl;
     words = refl;
+    placed = tt;
   },
   tt,
 )
@@ -157,6 +158,7 @@ restacked g s k a stacks st = record {
   resolved = st.resolved;
   cancelled = st.cancelled;
   words = st.words;
+  placed = st.placed;
 }
 
 pub all_restacked : (g : Graph) (s : Script) (ks : List TaskSlot) (tasks : List Task) (t : ℕ) (f : List Stack → List Stack) → AllZip (TaskStands g s) ks tasks

@@ -24,9 +24,9 @@ use Rattle.comp_graph.specs.Graph.{Graph}
 use Rattle.comp_graph.specs.declared.graph.CanonFunc.{CanonFunc}
 use Rattle.comp_graph.specs.declared.graph.Options.{Options}
 use Rattle.script_reader.specs.Script.{Script}
-use Rattle.trace_show.specs.declared.label.BlockReason.TheVariants as reason
-use Rattle.trace_show.specs.declared.label.Label.{Label}
-use Rattle.trace_show.specs.declared.trap.TrapName.TheVariants as trap
+use Rattle.trace_labels.specs.declared.label.BlockReason.TheVariants as reason
+use Rattle.trace_labels.specs.declared.label.Label.{Label}
+use Rattle.trace_labels.specs.declared.trap.TrapName.TheVariants as trap
 use Rattle.task_table.specs.declared.errand.Errand.TheVariants as errand
 use Rattle.instances.specs.declared.entry.EndEntry.{EndEntry}
 use Rattle.instances.specs.declared.entry.WorldEntry.TheVariants as entry
@@ -193,7 +193,7 @@ module _ (g : Graph) (values : List ValType) (s : Script) (v : Views) (h : Held)
       on_blocked g values s (once_said t at canon index place size x k e f.channel h) stacks behind_meeting t one.left (blocked_at.Copy index) (v.flag canon) (reason.Copy index)
       (InBuiltin canon words (ForCopy index)) (errand.InBuiltin canon) one.is_left refl
       (ap is_acting (one.alike.far ∙ ap (λ (y : Task). phase_of (flag_at g) y.state) same ∙ ap (phase_of (flag_at g)) a.state))
-      (ap (phase.Blocked (blocked_at.Copy index)) (sym (a.sees.flag canon))) refl
+      (ap (phase.Blocked (blocked_at.Copy index)) (sym (a.sees.flag canon))) refl tt
       (ap (λ (chain : List ℕ). slice_get chain 0) (chain_kept k e.number (λ c. record c { ends = world.offered_by k e.side (call_by t canon place size) c.ends }) w) ∙ a.first) said_stands
 
   stands_there : Agrees g values s t h.labels stacks (offer_stands v (call_at t at canon k type e index place size) e.number (once_met t canon place size k e f.channel h))

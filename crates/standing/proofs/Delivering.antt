@@ -18,8 +18,8 @@ use Rattle.res_handles.specs.declared.handle.Ownership.{Ownership}
 use Rattle.res_handles.specs.declared.handle.Ownership.TheVariants.{Own, Borrow}
 use Rattle.comp_graph.specs.Graph.{Graph, Lifted}
 use Rattle.script_reader.specs.Script.{Script}
-use Rattle.trace_show.specs.declared.label.Label.{Label}
-use Rattle.trace_show.specs.declared.label.Label.TheVariants as line
+use Rattle.trace_labels.specs.declared.label.Label.{Label}
+use Rattle.trace_labels.specs.declared.label.Label.TheVariants as line
 use Rattle.channels.specs.declared.channel.Channel as kept_channel
 use Rattle.channels.specs.Channels.{end_in}
 use Rattle.instances.specs.declared.entry.EndEntry.{EndEntry}

@@ -10,7 +10,7 @@ use Rattle.waitables.specs.declared.refusal.SetRefusal.{SetRefusal}
 use Rattle.waitables.specs.declared.refusal.SetRefusal.TheVariants as refusal
 use Rattle.comp_graph.specs.Graph.{Graph}
 use Rattle.script_reader.specs.Script.{Script}
-use Rattle.trace_show.specs.declared.trap.TrapName.{TrapName}
+use Rattle.trace_labels.specs.declared.trap.TrapName.{TrapName}
 use Rattle.instances.specs.declared.entry.WorldEntry.{WorldEntry}
 use Rattle.instances.specs.declared.entry.WorldEntry.TheVariants as entry
 use Rattle.instances.specs.declared.refusal.DropSetError.TheVariants as drop_error

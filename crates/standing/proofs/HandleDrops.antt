@@ -18,9 +18,9 @@ use Rattle.comp_graph.specs.declared.graph.FuncRef.{FuncRef}
 use Rattle.comp_graph.specs.declared.graph.Resource.{Resource}
 use Rattle.comp_graph.specs.Graph.{Graph}
 use Rattle.script_reader.specs.Script.{Script}
-use Rattle.trace_show.specs.declared.label.Label.{Label}
-use Rattle.trace_show.specs.declared.trap.TrapName.{TrapName}
-use Rattle.trace_show.specs.declared.trap.TrapName.TheVariants as trap
+use Rattle.trace_labels.specs.declared.label.Label.{Label}
+use Rattle.trace_labels.specs.declared.trap.TrapName.{TrapName}
+use Rattle.trace_labels.specs.declared.trap.TrapName.TheVariants as trap
 use Rattle.instances.specs.declared.entry.WorldEntry.TheVariants as entry
 use Rattle.instances.specs.Instances as instance
 use Rattle.instances.specs.Instances.{InstanceView, entry_of, view_of}
@@ -98,6 +98,7 @@ unborrowed_stands g s x a st = record {
   resolved = st.resolved;
   cancelled = st.cancelled;
   words = st.words;
+  placed = st.placed;
 }
 
 borrow_is_dropped : (g : Graph) (values : List ValType) (s : Script) (h : Held) (stacks : List (List Stack)) (w : World) (t by : ℕ) → CountsOne h.tasks by → Stands g values s h stacks w

@@ -36,10 +36,10 @@ use Rattle.copy_engine.specs.Hosting as hosting
 use Rattle.copy_engine.specs.Hosting.{with_act, reply_words, Going, GoesOn, Stops, goes_on}
 use Rattle.instances.specs.declared.entry.WorldEntry.{WorldEntry}
 use Rattle.instances.specs.Entries.{seen_as}
-use Rattle.trace_show.specs.declared.label.Label.{Label}
-use Rattle.trace_show.specs.declared.label.Label.TheVariants as line
-use Rattle.trace_show.specs.declared.trap.TrapName.{TrapName}
-use Rattle.trace_show.specs.declared.trap.TrapName.TheVariants as trap
+use Rattle.trace_labels.specs.declared.label.Label.{Label}
+use Rattle.trace_labels.specs.declared.label.Label.TheVariants as line
+use Rattle.trace_labels.specs.declared.trap.TrapName.{TrapName}
+use Rattle.trace_labels.specs.declared.trap.TrapName.TheVariants as trap
 use Rattle.abi_machine.specs.Control as control
 use Rattle.abi_machine.specs.Control.{Control, Free, Lowering, Nested, Behind, Quiet, Doomed}
 use Rattle.abi_machine.specs.World.{Entry, Inst, Task, World}

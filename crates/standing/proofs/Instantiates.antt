@@ -18,8 +18,8 @@ use Rattle.comp_graph.specs.declared.graph.Action.{Action}
 use Rattle.comp_graph.specs.declared.graph.Action.TheVariants.{Begin, Make}
 use Rattle.comp_graph.specs.Graph.{CoreMake, Graph}
 use Rattle.script_reader.specs.Script.{Script}
-use Rattle.trace_show.specs.declared.label.Label.{Label}
-use Rattle.trace_show.specs.declared.trap.TrapName.TheVariants as trap
+use Rattle.trace_labels.specs.declared.label.Label.{Label}
+use Rattle.trace_labels.specs.declared.trap.TrapName.TheVariants as trap
 use Rattle.instances.specs.Instances.{new_instance}
 use Rattle.task_table.specs.declared.errand.Errand.TheVariants as errand
 use Rattle.task_table.specs.declared.slot.TaskSlot.{TaskSlot}
@@ -161,6 +161,7 @@ begins_stand g s n x a acts st = record {
   resolved = st.resolved;
   cancelled = st.cancelled;
   words = st.words;
+  placed = tt;
 }
 
 module _ (g : Graph) (values : List ValType) (s : Script) (h : Held) (piles : List PileView) (w : World) (task : Task) (next : ℕ) (there : slice_get w.tasks 0 ≡ Some task)

@@ -38,8 +38,8 @@ use Rattle.copy_engine.specs.Hosted.{Placed, hosted_rooms, as_plan}
 use Rattle.comp_graph.specs.declared.graph.CanonFunc.{CanonFunc}
 use Rattle.comp_graph.specs.Graph.{Graph}
 use Rattle.script_reader.specs.Script.{Script}
-use Rattle.trace_show.specs.declared.label.Label.{Label}
-use Rattle.trace_show.specs.declared.trap.TrapName.TheVariants as trap
+use Rattle.trace_labels.specs.declared.label.Label.{Label}
+use Rattle.trace_labels.specs.declared.trap.TrapName.TheVariants as trap
 use Rattle.instances.specs.declared.entry.WorldEntry.{WorldEntry}
 use Rattle.instances.specs.Entries.{seen_as, of_handle, of_end}
 use Rattle.abi_machine.specs.declared.run_end.RunEnd.TheVariants.{Fuel}

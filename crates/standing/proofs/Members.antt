@@ -10,7 +10,7 @@ use Rattle.stream_ends.specs.Ends.{is_pending}
 use Rattle.waitables.specs.Sets.{ready_of}
 use Rattle.comp_graph.specs.Graph.{Graph}
 use Rattle.script_reader.specs.Script.{Script}
-use Rattle.trace_show.specs.declared.label.Label.{Label}
+use Rattle.trace_labels.specs.declared.label.Label.{Label}
 use Rattle.channels.specs.declared.channel.Channel as kept_channel
 use Rattle.instances.specs.declared.entry.WorldEntry.{WorldEntry}
 use Rattle.instances.specs.declared.entry.WorldEntry.TheVariants as entry

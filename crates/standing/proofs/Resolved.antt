@@ -29,8 +29,8 @@ use Rattle.comp_graph.specs.declared.graph.CanonFunc.TheVariants as canon
 use Rattle.comp_graph.specs.declared.graph.Options.{Options}
 use Rattle.comp_graph.specs.Graph.{Graph}
 use Rattle.script_reader.specs.Script.{Script}
-use Rattle.trace_show.specs.declared.label.Label.TheVariants as line
-use Rattle.trace_show.specs.declared.trap.TrapName.{TrapName}
+use Rattle.trace_labels.specs.declared.label.Label.TheVariants as line
+use Rattle.trace_labels.specs.declared.trap.TrapName.{TrapName}
 use Rattle.task_table.specs.declared.caller.Called.{Called}
 use Rattle.task_table.specs.declared.caller.Caller as kept_caller
 use Rattle.task_table.specs.declared.caller.Caller.TheVariants as by
@@ -125,6 +125,7 @@ raised_stands g s now x a st = record {
   resolved = st.resolved;
   cancelled = st.cancelled;
   words = st.words;
+  placed = st.placed;
 }
 
 pub raised_is : (t : ℕ) (now : SubtaskState) (h : Held) (x : TaskSlot) → slice_get h.tasks t ≡ Some x → may_raise now x.caller ≡ true
@@ -211,6 +212,7 @@ resolved_stands g s x a st = record {
   resolved = refl;
   cancelled = st.cancelled;
   words = st.words;
+  placed = st.placed;
 }
 
 cancel_by : (g : Graph) (values : List ValType) (s : Script) (h : Held) (stacks : List (List Stack)) (w : World) (t : ℕ) (task : Task) (x : TaskSlot) (o : Option TaskTrap)

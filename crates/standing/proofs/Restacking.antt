@@ -1,9 +1,10 @@
 -- What is kept stands for a world whose store, units and stacks are others.
-use Rattle.std.proofs.Common.{◌≡◌, ◌+◌, ℕ, zero, suc, List, [], ◌∷◌, map, slice_set, refl, sym, ap, ◌∙◌, arith, Option, Some, None}
+use Rattle.std.proofs.Common.{◌≡◌, ◌+◌, ℕ, zero, suc, Bool, List, [], ◌∷◌, map, slice_set, refl, sym, ap, ◌∙◌, arith, Option, Some, None}
 use Rattle.std.specs.List.{slice_get, AllZip}
 use Rattle.wasm_store.specs.Store.{Store}
 use Rattle.wasm_store.specs.Stack.{Stack}
 use Rattle.ca_types.specs.declared.types.ValType.{ValType}
+use Rattle.tasks.specs.declared.phase.Phase.TheVariants as phase
 use Rattle.comp_graph.specs.Graph.{Graph}
 use Rattle.script_reader.specs.Script.{Script}
 use Rattle.instances.specs.Instances.{with_slots}
@@ -12,11 +13,13 @@ use Rattle.task_table.specs.Slots.{at_call}
 use Rattle.world_parts.specs.Held.{Held}
 use Rattle.world_parts.specs.Slots as slots
 use Rattle.abi_machine.specs.Control.{Control}
-use Rattle.abi_machine.specs.World.{Task, World}
+use Rattle.abi_machine.specs.World.{Wait, TaskState, New, Acting, AfterCall, AfterCancel, Begins, WaitsToEnter, InLoop, InBuiltin, Exited, Task, World}
+use Rattle.abi_machine.specs.Canons.{flag_at}
+use Rattle.abi_machine.specs.Counting.{phase_of}
 use Rattle.abi_machine.specs.Edits.{changed_at, with_task}
 use Rattle.abi_machine.proofs.sound.Found.{some_same}
 use Rattle.standing.specs.Instances.{InstStands}
-use Rattle.standing.specs.Tasks.{TaskStands}
+use Rattle.standing.specs.Tasks.{IsPlaced, TaskStands}
 use Rattle.standing.specs.Stands.{Stands}
 use Rattle.standing.specs.Reaching.{with_room}
 use Rattle.standing.specs.Lowers.{RoomStands}
@@ -76,8 +79,19 @@ tasks_stay g values s h stacks w t x y is keeps st = record {
   same_stacks = st.same_stacks;
 }
 
-pub call_stays : (g : Graph) (s : Script) (x : TaskSlot) (a : Task) (words : List ℕ) → TaskStands g s x a → TaskStands g s (at_call words x) a
-call_stays g s x a words st = record {
+acts_placed : (flag : ℕ → Bool) (kept : List ℕ) (state : TaskState) → phase.Acting ≡ phase_of flag state → IsPlaced kept state
+acts_placed flag kept New e = tt
+acts_placed flag kept Acting e = tt
+acts_placed flag kept (AfterCall callee number words) e = tt
+acts_placed flag kept (AfterCancel callee number words) e = tt
+acts_placed flag kept (Begins n) e = tt
+acts_placed flag kept WaitsToEnter e = tt
+acts_placed flag kept (InLoop word) e = tt
+acts_placed flag kept (InBuiltin number words wait) e = absurd (cc)
+acts_placed flag kept Exited e = tt
+
+pub call_stays : (g : Graph) (s : Script) (x : TaskSlot) (a : Task) (words : List ℕ) → x.task.phase ≡ phase.Acting → TaskStands g s x a → TaskStands g s (at_call words x) a
+call_stays g s x a words acts st = record {
   does = st.does;
   place = st.place;
   lifted = st.lifted;
@@ -88,6 +102,7 @@ call_stays g s x a words st = record {
   resolved = st.resolved;
   cancelled = st.cancelled;
   words = st.words;
+  placed = acts_placed (flag_at g) words a.state (sym acts ∙ st.far);
 }
 
 -- What is changed at a place is another one there.
@@ -115,6 +130,7 @@ context_stands g s x a context st = record {
   resolved = st.resolved;
   cancelled = st.cancelled;
   words = refl;
+  placed = st.placed;
 }
 
 pub lowered_stands : RoomStands

@@ -21,7 +21,7 @@ use Rattle.tasks.specs.declared.phase.Phase.TheVariants as phase
 use Rattle.tasks.specs.Tasks.{waits_inside, is_asked, is_cancellable}
 use Rattle.comp_graph.specs.Graph.{Graph, Lifted}
 use Rattle.script_reader.specs.Script.{Script}
-use Rattle.trace_show.specs.declared.label.Label.{Label}
+use Rattle.trace_labels.specs.declared.label.Label.{Label}
 use Rattle.instances.specs.declared.entry.WorldEntry.{WorldEntry}
 use Rattle.instances.specs.declared.entry.WorldEntry.TheVariants as entry
 use Rattle.instances.specs.Entries as entries
@@ -109,6 +109,7 @@ acts_again g s x a st = record {
   resolved = st.resolved;
   cancelled = st.cancelled;
   words = st.words;
+  placed = tt;
 }
 
 abbrev pub gone_on : ℕ → TaskSlot → Held → Held
@@ -291,6 +292,7 @@ acts_in_loop g s x a none st = record {
   resolved = st.resolved;
   cancelled = st.cancelled;
   words = st.words;
+  placed = tt;
 }
 
 wait_flows : (g : Graph) (values : List ValType) (s : Script) (h : Held) (stacks : List (List Stack)) (w : World) (t : ℕ) (task : Task) (f : Lifted) (set : ℕ) (b : Bool)

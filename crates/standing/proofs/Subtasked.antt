@@ -16,8 +16,8 @@ use Rattle.tasks.specs.Tasks.{is_unasked, is_told, resolved_state, state_of}
 use Rattle.tasks.specs.Subtasks.{is_over}
 use Rattle.comp_graph.specs.Graph.{Graph, Lifted}
 use Rattle.script_reader.specs.Script.{Script}
-use Rattle.trace_show.specs.declared.label.Label.{Label}
-use Rattle.trace_show.specs.declared.trap.TrapName.TheVariants as trap
+use Rattle.trace_labels.specs.declared.label.Label.{Label}
+use Rattle.trace_labels.specs.declared.trap.TrapName.TheVariants as trap
 use Rattle.instances.specs.declared.entry.WorldEntry.TheVariants as entry
 use Rattle.instances.specs.Entries as entries
 use Rattle.instances.specs.Instances.{InstanceView, entry_of}
@@ -88,6 +88,7 @@ asks_stand g s x a callee number index words acts same st = record {
   resolved = st.resolved;
   cancelled = st.cancelled;
   words = st.words;
+  placed = tt;
 }
 
 asks : (g : Graph) (values : List ValType) (s : Script) (h : Held) (stacks : List (List Stack)) (w : World) (t number word callee : ℕ) (words : List ℕ) (x slot : TaskSlot) (task : Task)

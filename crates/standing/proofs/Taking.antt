@@ -9,8 +9,8 @@ use Rattle.script_reader.specs.declared.script.Call.{Call}
 use Rattle.script_reader.specs.declared.script.Item.{Item}
 use Rattle.script_reader.specs.declared.script.Item.TheVariants as item
 use Rattle.script_reader.specs.Script.{Script}
-use Rattle.trace_show.specs.declared.label.Label.TheVariants as line
-use Rattle.trace_show.specs.declared.typed.TypedValue.{TypedValue}
+use Rattle.trace_labels.specs.declared.label.Label.TheVariants as line
+use Rattle.trace_labels.specs.declared.typed.TypedValue.{TypedValue}
 use Rattle.task_table.specs.declared.caller.Caller.TheVariants as by
 use Rattle.task_table.specs.declared.errand.Callee.TheVariants as callee
 use Rattle.task_table.specs.Slots.{new_slot}
@@ -67,6 +67,7 @@ new_stands g s export instance number count kind f call is place_is lifted_is ne
   resolved = refl;
   cancelled = refl;
   words = refl;
+  placed = tt;
 }
 
 pub call_is_taken : CallIsTaken

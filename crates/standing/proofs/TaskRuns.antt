@@ -14,10 +14,11 @@ use Rattle.wasm_execution.specs.declared.running.Outcome.TheVariants as outcome
 use Rattle.ca_types.specs.declared.types.ValType.{ValType}
 use Rattle.tasks.specs.Tasks.{is_acting}
 use Rattle.tasks.specs.declared.phase.Phase.{Phase}
+use Rattle.tasks.specs.declared.phase.Phase.TheVariants as phase
 use Rattle.comp_graph.specs.Graph.{Graph}
 use Rattle.script_reader.specs.Script.{Script}
-use Rattle.trace_show.specs.declared.label.Label.{Label}
-use Rattle.trace_show.specs.declared.label.Label.TheVariants as line
+use Rattle.trace_labels.specs.declared.label.Label.{Label}
+use Rattle.trace_labels.specs.declared.label.Label.TheVariants as line
 use Rattle.task_table.specs.declared.errand.Errand.{Errand}
 use Rattle.task_table.specs.declared.errand.Errand.TheVariants as errand
 use Rattle.task_table.specs.declared.slot.TaskSlot.{TaskSlot}
@@ -57,7 +58,7 @@ use Rattle.standing.specs.Agreeing.{words_in, control_at}
 use Rattle.standing.specs.Reaching.{GoesTo, Meets, with_room}
 use Rattle.standing.specs.Leading.{ComesBy}
 use Rattle.standing.specs.Runs.{RunsStack, StackLeads}
-use Rattle.standing.specs.TaskRuns.{func_turn, FuncEnds, RunLeads, OutcomeLeads, RunsPile, TaskRunsLead}
+use Rattle.standing.specs.TaskRuns.{func_turn, FuncEnds, RunLeads, ActsStill, OutcomeLeads, RunsPile, TaskRunsLead}
 use Rattle.standing.proofs.Lists.{IsFound, found_both}
 use Rattle.standing.proofs.Changes.{acting_is_alike, tasks_change}
 use Rattle.standing.proofs.Agreeing.{get_set, changed_twice}
@@ -119,11 +120,13 @@ module _ (g : Graph) (values : List ValType) (s : Script) (w v : World) (h : Hel
   told_none : h.labels ≡ before ++ []
   told_none = same ∙ sym (append-nil before)
 
-  pub calls_lead : (number : ℕ) (words : List ℕ) (waits : Waiting) → GoesTo g s w [] (with_stack t waits.stack (world.with_control (Calls number words) v))
+  pub calls_lead : (number : ℕ) (words : List ℕ) (waits : Waiting) → ActsStill task.state → GoesTo g s w [] (with_stack t waits.stack (world.with_control (Calls number words) v))
       → RunLeads g values s t w before stacks (after (called t number words h) (λ done k. Gives (None, with_top (top.Waits (record { address = number; waiting = waits })) pile) k))
-  calls_lead number words waits to =
+  calls_lead number words waits acting to =
       let f : IsFound (TaskStands g s) (slice_get h.tasks t) (slice_get v.tasks t) = found in
       let slot : TaskSlot = f.left in
+      let same : f.right ≡ task = some_same (sym f.is_right ∙ there) in
+      let slot_acts : slot.task.phase ≡ phase.Acting = f.alike.far ∙ ap (λ (x : Task). phase_of (flag_at g) x.state) same ∙ acting (flag_at g) in
       let tasks : List TaskSlot = slice_set h.tasks t (at_call words slot) in
       subst
       (λ (o : Option TaskSlot). RunLeads g values s t w before stacks
@@ -135,7 +138,7 @@ module _ (g : Graph) (values : List ValType) (s : Script) (w v : World) (h : Hel
         world = with_stack t waits.stack (world.with_control (Calls number words) v);
         goes = to;
         stands = tasks_stay g values s h (slice_set stacks t (waits.stack ∷ stacks_under ws)) (with_stack t waits.stack v) t slot (at_call words slot) f.is_left
-            (λ a now. call_stays g s slot a words now) (restacked (λ ks. waits.stack ∷ drop 1 ks) (waits.stack ∷ stacks_under ws) refl);
+            (λ a now. call_stays g s slot a words slot_acts now) (restacked (λ ks. waits.stack ∷ drop 1 ks) (waits.stack ∷ stacks_under ws) refl);
         told = told_none;
         ends = sym (ap (λ (o : Option ℕ). Calls number (words_in (option_and_then (λ n. slice_get tasks n) o))) (acting_is_alike g values s h stacks v st ∙ acts)
             ∙ ap (λ (o : Option TaskSlot). Calls number (words_in o)) (get_set h.tasks t slot (at_call words slot) f.is_left));
@@ -216,6 +219,7 @@ module _ (g : Graph) (values : List ValType) (s : Script) (w v : World) (h : Hel
         resolved = now.resolved;
         cancelled = now.cancelled;
         words = now.words;
+        placed = tt;
       }
   last_leads WaitsToEnter words e is m = tt
   last_leads (InLoop word) words e is m = tt
@@ -268,18 +272,18 @@ module _ (g : Graph) (values : List ValType) (s : Script) (w v : World) (h : Hel
   )
 
 outcome_leads : (g : Graph) (values : List ValType) (s : Script) (h : Held) (stacks : List (List Stack)) (w : World) (t : ℕ) (task : Task) (p : PileView) (k : Stack)
-    (o : Outcome) (store : Store) (left used : ℕ) → slice_get w.chain 0 ≡ Some t → slice_get w.tasks t ≡ Some task → slice_get stacks t ≡ Some (k ∷ stacks_under p.under)
+    (o : Outcome) (store : Store) (left used : ℕ) → slice_get w.chain 0 ≡ Some t → slice_get w.tasks t ≡ Some task → ActsStill task.state → slice_get stacks t ≡ Some (k ∷ stacks_under p.under)
     → Stands g values s (record h { store = store; left = left }) stacks (with_room w store used Free) → StackLeads g s w t task (stacks_under p.under) o store used
     → OutcomeLeads g values s t w h.labels stacks (with_top top.Empty p) o (record h { store = store; left = left })
-outcome_leads g values s h stacks w t task p k (outcome.Done words) store left used acts there piled st to =
+outcome_leads g values s h stacks w t task p k (outcome.Done words) store left used acts there acting piled st to =
     ends_lead g values s w (with_room w store used Free) (record h { store = store; left = left }) h.labels stacks t task k p.under refl acts there piled st p.under words refl to
-outcome_leads g values s h stacks w t task p k (outcome.Calls number words waits) store left used acts there piled st to =
-    calls_lead g values s w (with_room w store used Free) (record h { store = store; left = left }) h.labels stacks t task k p.under refl acts there piled st number words waits to
-outcome_leads g values s h stacks w t task p k (outcome.Trapped why) store left used acts there piled st to =
+outcome_leads g values s h stacks w t task p k (outcome.Calls number words waits) store left used acts there acting piled st to =
+    calls_lead g values s w (with_room w store used Free) (record h { store = store; left = left }) h.labels stacks t task k p.under refl acts there piled st number words waits acting to
+outcome_leads g values s h stacks w t task p k (outcome.Trapped why) store left used acts there acting piled st to =
     traps_lead g values s w (with_room w store used Free) (record h { store = store; left = left }) h.labels stacks t task k p.under refl acts there piled st why to.0 to.1
-outcome_leads g values s h stacks w t task p k (outcome.NoFuel later) store left used acts there piled st to =
+outcome_leads g values s h stacks w t task p k (outcome.NoFuel later) store left used acts there acting piled st to =
     fuel_ends g values s w (with_room w store used Free) (record h { store = store; left = left }) h.labels stacks t task k p.under refl acts there piled st later to
-outcome_leads g values s h stacks w t task p k outcome.Memory store left used acts there piled st to = tt
+outcome_leads g values s h stacks w t task p k outcome.Memory store left used acts there acting piled st to = tt
 
 pub task_runs_lead : TaskRunsLead
 task_runs_lead g values s h stacks w t p k o store left runs st gives =
@@ -292,4 +296,4 @@ task_runs_lead g values s h stacks w t p k o store left runs st gives =
     let before : w.units + h.left ≡ s.fuel = other_way h.left w.units s.fuel st.fuel in
     let to = stacks_lead g s w t task k (stacks_under p.under) o store h.left left here before (subst (λ (a : Store). RunGives a k h.left o store left) st.same_store gives) in
     let sum : left + to.0 ≡ s.fuel = other_way to.0 left s.fuel to.1 in
-    outcome_leads g values s h stacks w t task p k o store left to.0 runs.acts at.1 whole (room_stands g values s h stacks w store left to.0 Free sum st) to.2
+    outcome_leads g values s h stacks w t task p k o store left to.0 runs.acts at.1 (runs.acting task at.1) whole (room_stands g values s h stacks w store left to.0 Free sum st) to.2

@@ -19,7 +19,7 @@ use Rattle.tasks.specs.Tasks.{resolved_state, state_of}
 use Rattle.tasks.specs.Subtasks.{code_of, is_over, has_event, delivered}
 use Rattle.comp_graph.specs.Graph.{Graph}
 use Rattle.script_reader.specs.Script.{Script}
-use Rattle.trace_show.specs.declared.label.Label.TheVariants as line
+use Rattle.trace_labels.specs.declared.label.Label.TheVariants as line
 use Rattle.instances.specs.declared.entry.EndEntry.{EndEntry}
 use Rattle.instances.specs.declared.entry.WorldEntry.{WorldEntry}
 use Rattle.instances.specs.declared.entry.WorldEntry.TheVariants as entry
@@ -219,6 +219,7 @@ side_changed g s x a called subtask f k is there same keeps st = record {
   resolved = st.resolved;
   cancelled = st.cancelled;
   words = st.words;
+  placed = st.placed;
 }
 
 -- So the caller is told.

@@ -17,9 +17,9 @@ use Rattle.res_handles.specs.declared.refusal.Refusal.{Refusal}
 use Rattle.comp_graph.specs.declared.graph.Options.{Options}
 use Rattle.comp_graph.specs.Graph.{Graph, Lifted}
 use Rattle.script_reader.specs.Script.{Script}
-use Rattle.trace_show.specs.declared.label.BlockReason.TheVariants as reason
-use Rattle.trace_show.specs.declared.trap.TrapName.{TrapName}
-use Rattle.trace_show.specs.declared.trap.TrapName.TheVariants as trap
+use Rattle.trace_labels.specs.declared.label.BlockReason.TheVariants as reason
+use Rattle.trace_labels.specs.declared.trap.TrapName.{TrapName}
+use Rattle.trace_labels.specs.declared.trap.TrapName.TheVariants as trap
 use Rattle.instances.specs.Entries as entries
 use Rattle.instances.specs.Instances.{InstanceView, entry_of, with_sets}
 use Rattle.task_table.specs.declared.errand.Errand.TheVariants as errand
@@ -56,6 +56,7 @@ use Rattle.standing.specs.Tasks.{TaskStands}
 use Rattle.standing.specs.Stands.{Stands}
 use Rattle.standing.specs.Agreeing.{Agrees}
 use Rattle.standing.specs.Replies.{HasItsSets}
+use Rattle.standing.specs.Resolutions.{HasWords}
 use Rattle.standing.specs.Ends.{Sees, HasMemory}
 use Rattle.standing.specs.Events.{SeesCallbacks, AgreesOn, Hears}
 use Rattle.standing.specs.Waits.{HasNews, SetIsWaitedFor}
@@ -96,7 +97,7 @@ waited_on_is at set x h is few =
     ∙ ap (λ (b : Bool). if b then Gives tt (with_instance at (with_sets (waitable.waited_on set x.sets) x) h) else held.Stuck) few
 
 module _ (g : Graph) (values : List ValType) (s : Script) (v : Views) (h : Held) (stacks : List (List Stack)) (w : World) (t canon word place : ℕ) (op : WaitOp) (task : Task) (f : Lifted) (inst : Inst)
-    (words : List ℕ) (sees : Sees g v) (callbacks : SeesCallbacks g v) (is : word_in words 0 ≡ Some word) (is_place : word_in words 1 ≡ Some place) (has : HasMemory h w (options_at g canon))
+    (words : List ℕ) (sees : Sees g v) (callbacks : SeesCallbacks g v) (is : word_in words 0 ≡ Some word) (is_place : word_in words 1 ≡ Some place) (keeps : HasWords h t words) (has : HasMemory h w (options_at g canon))
     (first : slice_get w.chain 0 ≡ Some t) (there : slice_get w.tasks t ≡ Some task) (acts : task.state ≡ Acting) (runs : func_of task.callee ≡ Some f)
     (is_inst : slice_get w.insts f.instance ≡ Some inst) (sets : HasItsSets inst) (has_news : (set : ℕ) → HasNews values v h w f.instance set) (st : Stands g values s h stacks w) where
   abbrev at : ℕ
@@ -117,7 +118,8 @@ module _ (g : Graph) (values : List ValType) (s : Script) (v : Views) (h : Held)
       (turn_as g values s t h.labels stacks _ _ (blocked t (InBuiltin canon words (ForSet word)) (reason.Wait word) w)
       (ap (λ (n : ℕ). blocked t (InBuiltin canon words (ForSet n)) (reason.Wait n) w) (word_is words 0 word is))
       (on_blocked g values s k stacks w t slot_found.left (blocked_at.Set word) (v.flag canon) (reason.Wait word) (InBuiltin canon words (ForSet word)) (errand.InBuiltin canon)
-      slot_found.is_left refl (ap is_acting (slot_stands.far ∙ ap (phase_of (flag_at g)) acts)) (ap (phase.Blocked (blocked_at.Set word)) (sym (sees.flag canon))) refl first
+      slot_found.is_left refl (ap is_acting (slot_stands.far ∙ ap (phase_of (flag_at g)) acts)) (ap (phase.Blocked (blocked_at.Set word)) (sym (sees.flag canon))) refl
+      (place, ap (λ (ws : List ℕ). word_in ws 1) (keeps slot_found.left slot_found.is_left) ∙ is_place, is_place) first
       (instances_stay g values s h stacks w at x (with_sets (waitable.waited_on set x.sets) x) is_x
       (λ a now. waiters_are_not_said values x a set ((waitable.set_at x.sets set).waiters + 1) now) st)))
 
@@ -237,5 +239,5 @@ module _ (g : Graph) (values : List ValType) (s : Script) (v : Views) (h : Held)
       (on_set x i.right (entries.set_in (entry_of x word)) i.is_left i.is_right i.alike refl)
 
 pub set_is_waited_for : SetIsWaitedFor
-set_is_waited_for g values s v h stacks w t canon word place op task f inst words sees callbacks is is_place has first there acts runs is_inst sets has_news st =
-    set_waited g values s v h stacks w t canon word place op task f inst words sees callbacks is is_place has first there acts runs is_inst sets has_news st
+set_is_waited_for g values s v h stacks w t canon word place op task f inst words sees callbacks is is_place keeps has first there acts runs is_inst sets has_news st =
+    set_waited g values s v h stacks w t canon word place op task f inst words sees callbacks is is_place keeps has first there acts runs is_inst sets has_news st

@@ -7,7 +7,7 @@ use Rattle.wasm_store.specs.Stack.{Stack}
 use Rattle.tasks.specs.Tasks.{is_asked}
 use Rattle.comp_graph.specs.Graph.{Graph, Lifted}
 use Rattle.script_reader.specs.Script.{Script}
-use Rattle.trace_show.specs.declared.label.Label.{Label}
+use Rattle.trace_labels.specs.declared.label.Label.{Label}
 use Rattle.world_parts.specs.declared.parts.Receiver as kept
 use Rattle.world_parts.specs.declared.parts.Receiver.TheVariants as receiver
 use Rattle.world_parts.specs.Views.{Views}

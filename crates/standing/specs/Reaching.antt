@@ -4,7 +4,7 @@ use Rattle.std.specs.Prelude.{◌≡◌, ◌+◌, ℕ, List, ◌++◌}
 use Rattle.wasm_store.specs.Store.{Store}
 use Rattle.comp_graph.specs.Graph.{Graph}
 use Rattle.script_reader.specs.Script.{Script}
-use Rattle.trace_show.specs.declared.label.Label.{Label}
+use Rattle.trace_labels.specs.declared.label.Label.{Label}
 use Rattle.abi_machine.specs.declared.run_end.RunEnd.{RunEnd}
 use Rattle.abi_machine.specs.Control.{Control}
 use Rattle.abi_machine.specs.World.{World}

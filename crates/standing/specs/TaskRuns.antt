@@ -1,6 +1,6 @@
 -- What is kept when the acting task's stack has run (Core 2.0, section 4.4; Component Model, CanonicalABI.md, `canon lift`, `canon resource.drop`)
 -- stands for a world to which the machine comes.
-use Rattle.std.specs.Prelude.{◌≡◌, ℕ, List, [], slice_set, Option, Some, None}
+use Rattle.std.specs.Prelude.{◌≡◌, ℕ, Bool, List, [], slice_set, Option, Some, None}
 use Rattle.std.specs.List.{slice_get}
 use Rattle.wasm_store.specs.Store.{Store}
 use Rattle.wasm_store.specs.Stack.{Stack}
@@ -10,7 +10,8 @@ use Rattle.wasm_execution.specs.declared.running.Outcome.TheVariants as outcome
 use Rattle.ca_types.specs.declared.types.ValType.{ValType}
 use Rattle.comp_graph.specs.Graph.{Graph}
 use Rattle.script_reader.specs.Script.{Script}
-use Rattle.trace_show.specs.declared.label.Label.{Label}
+use Rattle.trace_labels.specs.declared.label.Label.{Label}
+use Rattle.tasks.specs.declared.phase.Phase.TheVariants as phase
 use Rattle.world_parts.specs.Held.{Held, Done, Gives, Traps, Spent, after}
 use Rattle.world_stacks.specs.declared.top.Top.TheVariants as top
 use Rattle.world_stacks.specs.Views.{PileView, stacks_of}
@@ -18,7 +19,8 @@ use Rattle.world_stacks.specs.Piles.{with_top}
 use Rattle.world_stacks.specs.Names.{core_name}
 use Rattle.world_stacks.specs.Running.{called, stack_ended}
 use Rattle.abi_machine.specs.Control.{Runs}
-use Rattle.abi_machine.specs.World.{World}
+use Rattle.abi_machine.specs.World.{TaskState, Task, World}
+use Rattle.abi_machine.specs.Counting.{phase_of}
 use Rattle.abi_machine.specs.Reading.{task_at, func_of, kind_of}
 use Rattle.abi_machine.specs.Turn.{Turn, given}
 use Rattle.abi_machine.specs.CoreSteps.{func_ended}
@@ -59,10 +61,14 @@ OutcomeLeads g values s t w before stacks p (outcome.Trapped why) h = RunLeads g
 OutcomeLeads g values s t w before stacks p (outcome.NoFuel later) h = RunLeads g values s t w before stacks (Spent h)
 OutcomeLeads g values s t w before stacks p outcome.Memory h = Unit {0}
 
--- The acting task's stack is to run, over those of destructors.
+-- The acting task's stack is to run, over those of destructors; and it acts, or a start function of its instance runs.
+abbrev pub ActsStill : TaskState → Type 0
+ActsStill state = (flag : ℕ → Bool) → phase_of flag state ≡ phase.Acting
+
 pub record RunsPile (w : World) (t : ℕ) (stacks : List (List Stack)) (p : PileView) (k : Stack) : Type 0 where
   pub control : w.control ≡ Runs
   pub acts : slice_get w.chain 0 ≡ Some t
+  pub acting : (task : Task) → slice_get w.tasks t ≡ Some task → ActsStill task.state
   pub piled : slice_get stacks t ≡ Some (stacks_of p)
   pub goes : p.top ≡ top.Goes k
 

@@ -1,6 +1,6 @@
 -- Tasks (Component Model, CanonicalABI.md, "Task State" and "Subtask State"): what is kept of one stands for one of the machine. How many
--- borrow handles it has, the state that its caller sees, whether a task waits for it directly, and the words of the call at which it waits
--- are kept beside it, and are not said here.
+-- borrow handles it has, the state that its caller sees, and whether a task waits for it directly are kept beside it, and are not said here;
+-- and of the words of the call at which it waits the place of a wait on a set is said alone.
 use Rattle.std.specs.Prelude.{◌≡◌, ℕ, List, Option, Some, None}
 use Rattle.std.specs.List.{filter_map}
 use Rattle.std.specs.Option.{option_map}
@@ -22,7 +22,8 @@ use Rattle.task_table.specs.declared.errand.Callee.TheVariants as callee
 use Rattle.task_table.specs.declared.errand.Errand.{Errand}
 use Rattle.task_table.specs.declared.errand.Errand.TheVariants as errand
 use Rattle.task_table.specs.declared.slot.TaskSlot.{TaskSlot}
-use Rattle.abi_machine.specs.World.{Callee, Init, Func, Destroys, Subtask, Caller, Nobody, Host, Guest, TaskState, New, Acting, AfterCall, AfterCancel, Begins, WaitsToEnter, InLoop, InBuiltin, Exited, Task}
+use Rattle.world_parts.specs.Slots.{word_in}
+use Rattle.abi_machine.specs.World.{Callee, Init, Func, Destroys, Subtask, Caller, Nobody, Host, Guest, Wait, ForYield, ForSet, ForCall, ForCopy, ForCancel, TaskState, New, Acting, AfterCall, AfterCancel, Begins, WaitsToEnter, InLoop, InBuiltin, Exited, Task}
 use Rattle.abi_machine.specs.Canons.{canon_at, flag_at, lifted_of, resource_at, destructor_of}
 use Rattle.abi_machine.specs.Reading.{func_of, kind_of, numbered}
 use Rattle.abi_machine.specs.Counting.{phase_of, caller_view}
@@ -96,6 +97,28 @@ errand_of (InLoop word) = errand.None
 errand_of (InBuiltin number words wait) = errand.InBuiltin number
 errand_of Exited = errand.None
 
+-- the place that a wait on a set was called with, by the words that are kept and those of the wait
+abbrev pub SamePlace : List ℕ → List ℕ → Type 0
+SamePlace kept words = (place : ℕ) × (word_in kept 1 ≡ Some place) × (word_in words 1 ≡ Some place)
+
+abbrev pub WaitPlaced : List ℕ → List ℕ → Wait → Type 0
+WaitPlaced kept words ForYield = Unit {0}
+WaitPlaced kept words (ForSet index) = SamePlace kept words
+WaitPlaced kept words (ForCall callee) = Unit {0}
+WaitPlaced kept words (ForCopy index) = Unit {0}
+WaitPlaced kept words (ForCancel index) = Unit {0}
+
+abbrev pub IsPlaced : List ℕ → TaskState → Type 0
+IsPlaced kept New = Unit {0}
+IsPlaced kept Acting = Unit {0}
+IsPlaced kept (AfterCall callee number words) = Unit {0}
+IsPlaced kept (AfterCancel callee number words) = Unit {0}
+IsPlaced kept (Begins n) = Unit {0}
+IsPlaced kept WaitsToEnter = Unit {0}
+IsPlaced kept (InLoop word) = Unit {0}
+IsPlaced kept (InBuiltin number words wait) = WaitPlaced kept words wait
+IsPlaced kept Exited = Unit {0}
+
 -- A task.
 pub record TaskStands (g : Graph) (s : Script) (k : TaskSlot) (a : Task) : Type 0 where
   pub does : callee_of g k.callee ≡ Some a.callee
@@ -108,3 +131,4 @@ pub record TaskStands (g : Graph) (s : Script) (k : TaskSlot) (a : Task) : Type 
   pub resolved : k.task.resolution ≡ a.resolution
   pub cancelled : k.task.cancellation ≡ a.cancellation
   pub words : k.context ≡ a.context
+  pub placed : IsPlaced k.at_words a.state

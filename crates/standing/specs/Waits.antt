@@ -33,6 +33,7 @@ use Rattle.standing.specs.Channels.{HasMarkedEnds}
 use Rattle.standing.specs.Moves.{CallKept}
 use Rattle.standing.specs.Ends.{Sees, HasMemory}
 use Rattle.standing.specs.Replies.{HasItsSets}
+use Rattle.standing.specs.Resolutions.{HasWords}
 use Rattle.standing.specs.Events.{SeesCallbacks, AgreesOn, Hears}
 
 -- The ready members of a set are the same, in the same order.
@@ -70,7 +71,7 @@ abbrev pub SetIsWaitedFor : Type 0
 SetIsWaitedFor =
     (g : Graph) (values : List ValType) (s : Script) (v : Views) (h : Held) (stacks : List (List Stack)) (w : World) (t canon word place : ℕ) (op : WaitOp) (task : Task) (f : Lifted)
     (inst : Inst) (words : List ℕ)
-    → Sees g v → SeesCallbacks g v → word_in words 0 ≡ Some word → word_in words 1 ≡ Some place → HasMemory h w (options_at g canon)
+    → Sees g v → SeesCallbacks g v → word_in words 0 ≡ Some word → word_in words 1 ≡ Some place → HasWords h t words → HasMemory h w (options_at g canon)
     → slice_get w.chain 0 ≡ Some t → slice_get w.tasks t ≡ Some task → task.state ≡ Acting → func_of task.callee ≡ Some f
     → slice_get w.insts f.instance ≡ Some inst → HasItsSets inst → ((set : ℕ) → HasNews values v h w f.instance set) → Stands g values s h stacks w
     → AgreesOn g values s t h.labels stacks (set_wait v t f.instance canon op words h) (wait_turn g t task f.instance op canon words w)

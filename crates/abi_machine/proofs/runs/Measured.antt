@@ -12,7 +12,7 @@ use Rattle.tasks.specs.declared.phase.Resolution.TheVariants.{Returned}
 use Rattle.comp_graph.specs.Needs.{flat_param_limit}
 use Rattle.comp_graph.specs.Graph.{Graph, no_options}
 use Rattle.script_reader.specs.Script.{Script}
-use Rattle.trace_show.specs.declared.label.Label.TheVariants as line
+use Rattle.trace_labels.specs.declared.label.Label.TheVariants as line
 use Rattle.abi_machine.specs.declared.run_end.RunEnd.TheVariants.{Done}
 use Rattle.abi_machine.specs.LoweringOver.{Plan, Gives, lower_step, field_words}
 use Rattle.abi_machine.specs.Control.{Free, Runs, Lowers, Leaves as Exits, Starts}

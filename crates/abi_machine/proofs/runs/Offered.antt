@@ -9,9 +9,9 @@ use Rattle.tasks.specs.declared.phase.Resolution.TheVariants.{Returned, Cancelle
 use Rattle.tasks.specs.declared.subtask_state.SubtaskState.TheVariants as told
 use Rattle.comp_graph.specs.Graph.{Graph, no_options}
 use Rattle.script_reader.specs.Script.{Script}
-use Rattle.trace_show.specs.declared.builtin.Builtin.TheVariants as builtin
-use Rattle.trace_show.specs.declared.label.BlockReason.TheVariants as reason
-use Rattle.trace_show.specs.declared.label.Label.TheVariants as line
+use Rattle.trace_labels.specs.declared.builtin.Builtin.TheVariants as builtin
+use Rattle.trace_labels.specs.declared.label.BlockReason.TheVariants as reason
+use Rattle.trace_labels.specs.declared.label.Label.TheVariants as line
 use Rattle.abi_machine.specs.declared.run_end.RunEnd.TheVariants.{Done}
 use Rattle.abi_machine.specs.Control.{Free}
 use Rattle.abi_machine.specs.World.{OwnHandle, OfSubtask, Init, Func, Nobody, Host, Guest, Acting, Exited, World, new_task}

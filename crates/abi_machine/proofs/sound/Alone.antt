@@ -8,7 +8,7 @@ use Rattle.comp_graph.specs.Graph.{Graph}
 use Rattle.script_reader.specs.Script.{Script}
 use Rattle.abi_machine.specs.Control.{Control, Free, Chosen, Instantiates, Runs, Arrives, Lowers, Quiet, Back, Goes, Resumes, Delivers, Leaves, Doomed}
 use Rattle.abi_machine.specs.Control as control
-use Rattle.abi_machine.specs.World.{OfEnd, Callee, Init, Subtask, Host, Guest, TaskState, New, Acting, AfterCall, AfterCancel, WaitsToEnter, InLoop, InBuiltin, Exited, Task, World, new_task}
+use Rattle.abi_machine.specs.World.{OfEnd, Callee, Init, Host, Guest, TaskState, New, Acting, AfterCall, AfterCancel, WaitsToEnter, InLoop, InBuiltin, Exited, Task, World, new_task}
 use Rattle.abi_machine.specs.World as world
 use Rattle.abi_machine.specs.Edits.{changed_at}
 use Rattle.abi_machine.specs.Reading.{func_of, has_exited, is_instantiated}
@@ -22,7 +22,7 @@ use Rattle.abi_machine.specs.sound.EndPlaces.{WritersStand, WritersStandOnce}
 use Rattle.abi_machine.specs.sound.Entered.{HaveEntered}
 use Rattle.abi_machine.specs.sound.Writers.{FirstHasWriters, WritersStayInOnePlace}
 use Rattle.abi_machine.specs.sound.Initial.{IsInitial, StartsNothing, InitRunsAlone, RunsAlone, FirstRunsAlone, StaysAlone}
-use Rattle.trace_show.specs.declared.label.Label.{Label}
+use Rattle.trace_labels.specs.declared.label.Label.{Label}
 use Rattle.abi_machine.specs.Turn.{Steps}
 use Rattle.abi_machine.specs.Next.{next}
 use Rattle.abi_machine.proofs.sound.Lists.{changed_either, more_either, get_front, within}
@@ -377,10 +377,14 @@ agrees_says Leaves w h = tt
 agrees_says (Doomed t why) w h = tt
 
 first_writers : WritersStand [] [] []
-first_writers = record { once = λ i index j other e side a b. (let clash : None ≡ Some (OfEnd e) = a in cc); made = λ i index e side a. (let clash : None ≡ Some (OfEnd e) = a in cc) }
+first_writers = record {
+  once = λ i index j other e side a b. (let clash : None ≡ Some (OfEnd e) = a in cc);
+  made = λ i index e side a. (let clash : None ≡ Some (OfEnd e) = a in cc);
+  live = λ i index e side a. (let clash : None ≡ Some (OfEnd e) = a in cc);
+}
 
 pub first_readers : ReadersStand [] [] []
-first_readers = record { once = λ i index j other e side a b. (let clash : None ≡ Some (OfEnd e) = a in cc); made = λ i index e side a. (let clash : None ≡ Some (OfEnd e) = a in cc) }
+first_readers = record { once = λ i index j other e side a b. (let clash : None ≡ Some (OfEnd e) = a in cc); live = λ i index e side a. (let clash : None ≡ Some (OfEnd e) = a in cc) }
 
 pub first_runs_alone : FirstRunsAlone
 first_runs_alone g = (record { init = new_task Init world.Nobody Acting; there = refl; instantiates = refl; alone = refl; others = others_none g }, refl, refl, (λ new. absurd new, tt), first_writers, first_entered g, λ none. first_readers)

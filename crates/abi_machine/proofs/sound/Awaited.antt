@@ -356,7 +356,7 @@ lent_changed g w u f same told h =
 abbrev Kept : Graph → World → Type 0
 Kept g w = IsNumbered w × HasSubtasks g w
 
-subtasks_kept : (g : Graph) (s : Script) (c : Change) (w : World) → MayCome g s c w → Besides (Unit {0}) ⊥ ⊥ g c w → Kept g w → HasSubtasks g (after c w)
+subtasks_kept : (g : Graph) (s : Script) (c : Change) (w : World) → MayCome g s c w → Besides (Unit {0}) ⊥ ⊥ ⊥ g c w → Kept g w → HasSubtasks g (after c w)
 subtasks_kept g s BeginsInstance w may b h = fewer g w.tasks w.insts _ (begun_no_more w.insts) h.1
 subtasks_kept g s (AddsEntry i entry) w may b h = entry_added g w i entry (b tt) h.1
 subtasks_kept g s (MakesSet i set) w may b h =

@@ -108,7 +108,7 @@ index_is false next index o entry other e h = inr h
 pub subtask_same : (a b : ℕ) → OfSubtask a ≡ OfSubtask b → b ≡ a
 subtask_same a b h = cc
 
-was_added : (insts : List Inst) (i callee j index other : ℕ) → StandsAt (changed_at i (λ inst. record inst { table = added (OfSubtask callee) inst.table }) insts) j index other → WasAdded insts i callee j index other
+pub was_added : (insts : List Inst) (i callee j index other : ℕ) → StandsAt (changed_at i (λ inst. record inst { table = added (OfSubtask callee) inst.table }) insts) j index other → WasAdded insts i callee j index other
 was_added insts i callee j index other h = elim (stood insts i (λ inst. record inst { table = added (OfSubtask callee) inst.table }) j index other h) [
   | inl old ↦ inl old
   | inr new ↦ elim (index_is (nat_eq (next_index new.1.0.table) index) (next_index new.1.0.table) index (live new.1.0.table index) (OfSubtask callee) (OfSubtask other) refl new.1.2) [
@@ -150,7 +150,7 @@ subtask_added g tasks insts i callee async alone nowhere h = record {
   cancelled = h.cancelled;
 }
 
-pub entry_added : (g : Graph) (w : World) (i : ℕ) (entry : Entry) → IsNewEntry g w entry → HasSubtasks g w → HasSubtasks g (after (AddsEntry i entry) w)
+pub entry_added : (g : Graph) (w : World) (i : ℕ) (entry : Entry) → IsNewEntry g w i entry → HasSubtasks g w → HasSubtasks g (after (AddsEntry i entry) w)
 entry_added g w i (OfSubtask callee) new h = subtask_added g w.tasks w.insts i callee new.0 new.1 new.2 h
 entry_added g w i (OwnHandle resource rep) new h = fewer g w.tasks w.insts _ (other_no_more w.insts i (OwnHandle resource rep) tt) h
 entry_added g w i (BorrowHandle resource rep task) new h = fewer g w.tasks w.insts _ (other_no_more w.insts i (BorrowHandle resource rep task) tt) h

@@ -7,8 +7,6 @@ use Rattle.ca_types.specs.declared.value.Value.{Value}
 use Rattle.handle_table.specs.History.{Event, IsHistory, live}
 use Rattle.builtin_kinds.specs.declared.EndKind.{EndKind}
 use Rattle.builtin_kinds.specs.declared.EndKind.TheVariants.{Stream, Future}
-use Rattle.stream_ends.specs.declared.side.Side.{Side}
-use Rattle.stream_ends.specs.declared.side.Side.TheVariants.{Reader, Writer}
 use Rattle.stream_ends.specs.declared.open_copy.OpenCopy.{OpenCopy}
 use Rattle.stream_ends.specs.declared.stream_end.End.{End}
 use Rattle.stream_ends.specs.Ends.{end_at}
@@ -27,8 +25,7 @@ use Rattle.abi_machine.specs.sound.Premises.{HasNoCopy}
 use Rattle.abi_machine.specs.sound.Tables.{HaveHistories}
 use Rattle.abi_machine.specs.sound.Acting.{Outline, outline_of}
 use Rattle.abi_machine.specs.sound.Owners.{owner_of_canon, CallsOwn, IsOwnWorld}
-use Rattle.abi_machine.specs.sound.EndPlaces.{EndStandsAt, WritersStand, channel_in}
-use Rattle.abi_machine.specs.sound.EndsPassed.{ReadersStand}
+use Rattle.abi_machine.specs.sound.EndPlaces.{EndStandsAt, channel_in}
 use Rattle.abi_machine.specs.sound.CopyWaits.{WaitsForCopy, IsUnderWay, AwaitsCopy, AwaitCopiesIn, AwaitCopies, FirstAwaitsCopies, CopiesStayAwaited}
 use Rattle.abi_machine.proofs.sound.Lists.{more_either, get_front}
 use Rattle.abi_machine.proofs.sound.Found.{some_same}
@@ -41,7 +38,9 @@ use Rattle.abi_machine.proofs.sound.Holding.{live_changed}
 use Rattle.abi_machine.proofs.sound.Ordered.{in_order}
 use Rattle.abi_machine.proofs.sound.OpenStay.{Stays, AllStay, OthersStay, conclude_stays, drop_stays, transfer_stays, offered_stays, channel_after}
 use Rattle.abi_machine.proofs.sound.own.Kept.{own_kept, own_removed}
-use Rattle.abi_machine.proofs.sound.known.Copying.{EndsStandOnce, NoneAwaits, BlocksCopying}
+use Rattle.abi_machine.proofs.sound.ends.Live.{same_end}
+use Rattle.abi_machine.proofs.sound.ends.Brought.{both_once}
+use Rattle.abi_machine.proofs.sound.known.Copying.{NoneAwaits, BlocksCopying}
 use Rattle.abi_machine.proofs.sound.known.Keeping.{BlocksOwn, Besides, Owns}
 use Rattle.abi_machine.proofs.sound.known.Beside.{beside}
 use Rattle.abi_machine.proofs.sound.known.Turning.{step_known}
@@ -87,13 +86,6 @@ edit_awaits : (g : Graph) (kind : EndKind) (number : ℕ) (f : Channel → Chann
 edit_awaits g kind number f w stays h t n index task l e runs waits =
     let a : AwaitsCopy g w.insts w.streams w.futures t n index l.instance = h t n index task l e runs waits in
     in_channels g w.insts w.streams w.futures _ _ t n index l.instance a (under_stays kind number f w a.end a.copy (λ c k m there under. stays c a.end.side) a.under)
-
--- an end by what it is
-same_end : (e d : EndRef) → e.kind ≡ d.kind → e.number ≡ d.number → e.side ≡ d.side → e ≡ d
-same_end e d kind number side =
-    ap (λ (x : EndKind). (let r : EndRef = record { kind = x; number = e.number; side = e.side } in r)) kind
-    ∙ (ap (λ (x : ℕ). (let r : EndRef = record { kind = d.kind; number = x; side = e.side } in r)) number
-    ∙ ap (λ (x : Side). (let r : EndRef = record { kind = d.kind; number = d.number; side = x } in r)) side)
 
 -- an edit at one end, where none awaits the copy that is there
 other_awaits : (g : Graph) (d : EndRef) (f : Channel → Channel) (w : World) → ((c : Channel) → OthersStay d.side c.ends.view (f c).ends.view)
@@ -267,7 +259,7 @@ beside_twice : (g : Graph) (kind : EndKind) (number : ℕ) (f k : Channel → Ch
 beside_twice g Stream number f k w h = h
 beside_twice g Future number f k w h = h
 
-copies_kept : (g : Graph) (s : Script) (c : Change) (w : World) → MayCome g s c w → Besides ⊥ ⊥ (Unit {0}) g c w → Owns g c w → HaveHistories w.insts → AwaitCopies g w → AwaitCopies g (after c w)
+copies_kept : (g : Graph) (s : Script) (c : Change) (w : World) → MayCome g s c w → Besides ⊥ ⊥ (Unit {0}) ⊥ g c w → Owns g c w → HaveHistories w.insts → AwaitCopies g w → AwaitCopies g (after c w)
 copies_kept g s BeginsInstance w may b own history h = begun_awaits g w h
 copies_kept g s (AddsEntry i entry) w may b own history h = add_awaits g w i entry history h
 copies_kept g s (MakesSet i set) w may b own history h = tables_await g (after (AddsEntry i (OfSet set)) w) i _ (λ x. refl) (add_awaits g w i (OfSet set) history h)
@@ -299,7 +291,7 @@ copies_kept g s (IsTold t state) w may b own history h = same_await g w t _ (λ 
 copies_kept g s (IsLent t handle) w may b own history h = same_await g w t _ (λ x. (refl, refl)) h
 copies_kept g s (HasResult t words) w may b own history h = same_await g w t _ (λ x. (refl, refl)) h
 copies_kept g s (MakesChannel kind element) w may b own history h = beside_made g kind element w (made_awaits g kind element w h)
-copies_kept g s (Offers e call) w may b own history h = beside_edit g e.kind e.number _ w (offer_awaits g e call w b h)
+copies_kept g s (Offers e call) w may b own history h = beside_edit g e.kind e.number _ w (offer_awaits g e call w b.0 h)
 copies_kept g s (Transfers e size values) w may b own history h = beside_twice g e.kind e.number _ _ w (transfer_awaits g e size values w h)
 copies_kept g s (Concludes e) w may b own history h = beside_edit g e.kind e.number _ w (conclude_awaits g e w (b tt) h)
 copies_kept g s (DropsEnd e) w may b own history h = beside_edit g e.kind e.number _ w (edit_awaits g e.kind e.number _ w (λ c. drop_stays e.side c.ends.view) h)
@@ -320,14 +312,6 @@ pub first_awaits_copies : FirstAwaitsCopies
 first_awaits_copies g zero number index task f e runs waits =
     let k : WaitsForCopy (new_task world.Init world.Nobody Acting) number index = subst (λ (x : Task). WaitsForCopy x number index) (sym (some_same e)) waits in absurd (acting_no_wait number index k.0 k.1)
 first_awaits_copies g (suc n) number index task f e runs waits = absurd (no_first n task e)
-
--- Both ends of each stream and future stand in one place.
-both_once : (insts : List Inst) (streams futures : List Channel) → WritersStand insts streams futures → ReadersStand insts streams futures → EndsStandOnce insts
-both_once insts streams futures writers readers i index j other e a b = by e.side refl
-  where
-    by : (s : Side) → e.side ≡ s → (i ≡ j) × (index ≡ other)
-    by Reader is = readers.once i index j other e is a b
-    by Writer is = writers.once i index j other e is a b
 
 pub copies_stay_awaited : CopiesStayAwaited
 unfolding beside in_order

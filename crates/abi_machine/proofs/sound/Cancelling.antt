@@ -33,8 +33,8 @@ use Rattle.abi_machine.proofs.sound.acts.Keeping.{Order}
 use Rattle.abi_machine.proofs.sound.own.Kept.{own_kept, own_removed}
 use Rattle.abi_machine.proofs.sound.known.Asked.{NoOther, TellsWell, IsUnasked, CancelsWell, BlocksAsked}
 use Rattle.abi_machine.proofs.sound.known.Asking.{over_or_not}
-use Rattle.abi_machine.proofs.sound.known.Keeping.{Besides, Walk}
-use Rattle.abi_machine.proofs.sound.known.Beside.{was_known}
+use Rattle.abi_machine.proofs.sound.known.Keeping.{Besides, Owns, Walk}
+use Rattle.abi_machine.proofs.sound.known.Beside.{was_known, stands_so, wakes_so}
 use Rattle.abi_machine.proofs.sound.known.Turning.{step_known}
 use Rattle.abi_machine.proofs.sound.CancelEdits.{one_stands_in, by_tables, all_stand, same_stand, begun_stand, removed_stand, NotOverFor, edited, sets, state_set, none_set, rechained, one_more}
 
@@ -240,7 +240,7 @@ removed_asked_kept w t callee number words task apart first there well h =
     (λ x n e c. (inr (subst (λ (m : ℕ). TaskIs tasks m IsResolved) c is, first), subst (NoOther tasks w.insts t) c alone)) (λ u differs k. k) (removed_kept w callee h))
 
 -- Changes one by one.
-cancels_kept : (g : Graph) (s : Script) (F : Type 0) (c : Change) (w : World) → MayCome g s c w → Besides F (Unit {0}) ⊥ g c w → HaveHistories w.insts → HasCancels w → HasCancels (after c w)
+cancels_kept : (g : Graph) (s : Script) (F : Type 0) (c : Change) (w : World) → MayCome g s c w → Besides F (Unit {0}) ⊥ ⊥ g c w → HaveHistories w.insts → HasCancels w → HasCancels (after c w)
 cancels_kept g s F BeginsInstance w may b history h = by_tables w.tasks w.insts _ w.chain (begun_stand w.tasks w.insts) h
 cancels_kept g s F (AddsEntry i entry) w may b history h =
     by_tables w.tasks w.insts _ w.chain (all_stand w.tasks w.insts i _ (λ x index callee old there. live_added x.table entry (OfSubtask callee) index old there) history) h
@@ -302,6 +302,11 @@ acts_apart w t callee task a there blocked same =
     let here : a.1.0 ≡ outline_of task = some_same (sym a.1.1 ∙ (ap (λ (n : ℕ). slice_get (outlines_of w.tasks) n) same ∙ outline_there w.tasks callee task there)) in
     subst IsBlocked (sym (ap (λ (o : Outline). o.state) here) ∙ a.1.2.1) blocked
 
+-- each change keeps it
+stays_so : (g : Graph) (s : Script) (o : Order g s) (c : Change) (w : World) → MayCome g s c w → Besides (Unit {0}) (Unit {0}) ⊥ ⊥ g c w → (Unit {0} → Owns g c w) → o.Holds w × Kept g w → o.Holds (after c w) × Kept g (after c w)
+stays_so g s o c w may b belongs h =
+    (o.stays c w may (was_known (Unit {0}) (Unit {0}) ⊥ ⊥ g c w b) h.0, (histories_kept g s c w may h.1.0, own_kept g s c w may (belongs tt) h.1.1, cancels_kept g s (Unit {0}) c w may b h.1.0 h.1.2))
+
 unfoldable walking : (g : Graph) (s : Script) → IsApart g → Walk g s
 unfolding in_order
 walking g s apart = (let o : Order g s = in_order g s in record {
@@ -310,6 +315,7 @@ walking g s apart = (let o : Order g s = in_order g s in record {
   Event = ⊥;
   Asks = Unit {0};
   Copies = ⊥;
+  Joins = ⊥;
   Holds = λ w. o.Holds w × Kept g w;
   alone = λ w h. o.alone w h.0;
   chained = λ w h. o.chained w h.0;
@@ -318,8 +324,9 @@ walking g s apart = (let o : Order g s = in_order g s in record {
   events = λ event. absurd event;
   asks_apart = λ a. tt;
   own = λ a w h. h.1.1;
-  stays = λ c w may b belongs h.
-      (o.stays c w may (was_known (Unit {0}) (Unit {0}) ⊥ g c w b) h.0, (histories_kept g s c w may h.1.0, own_kept g s c w may (belongs tt) h.1.1, cancels_kept g s (Unit {0}) c w may b h.1.0 h.1.2));
+  stays = stays_so g s o;
+  stands = stands_so g s (Unit {0}) (Unit {0}) ⊥ (Unit {0}) (λ w. o.Holds w × Kept g w) (stays_so g s o);
+  wakes = wakes_so g s (Unit {0}) (Unit {0}) ⊥ (Unit {0}) (λ w. o.Holds w × Kept g w) (stays_so g s o);
   comes = λ t w task there runs is idle h. (
     o.comes t w task there runs is idle h.0,
     (h.1.0, h.1.1, rechained w.tasks w.insts w.chain (t ∷ w.chain) (λ u k. absurd (no_first 0 u (subst (λ (chain : List ℕ). IsFirst u chain) idle k))) h.1.2),

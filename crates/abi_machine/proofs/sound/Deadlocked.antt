@@ -21,7 +21,7 @@ use Rattle.tasks.specs.declared.subtask_state.SubtaskState.TheVariants.{Cancelle
 use Rattle.tasks.specs.Subtasks.{is_over}
 use Rattle.tasks.specs.Tasks.{is_asked, is_told, resolved_state}
 use Rattle.comp_graph.specs.Graph.{Graph, Lifted}
-use Rattle.trace_show.specs.declared.label.Label.{Label}
+use Rattle.trace_labels.specs.declared.label.Label.{Label}
 use Rattle.script_reader.specs.Script.{Script}
 use Rattle.script_reader.specs.declared.script.Item.{Item}
 use Rattle.abi_machine.specs.declared.run_end.RunEnd.TheVariants.{Deadlock}

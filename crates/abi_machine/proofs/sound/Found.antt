@@ -20,7 +20,7 @@ use Rattle.stream_ends.specs.declared.side.Side.{Side}
 use Rattle.stream_ends.specs.declared.side.Side.TheVariants.{Reader, Writer}
 use Rattle.comp_graph.specs.Graph.{Lifted}
 use Rattle.stream_ends.specs.declared.open_copy.OpenCopy.{OpenCopy}
-use Rattle.trace_show.specs.declared.trap.TrapName.{TrapName}
+use Rattle.trace_labels.specs.declared.trap.TrapName.{TrapName}
 use Rattle.abi_machine.specs.Traps.{renamed}
 use Rattle.abi_machine.specs.LoweringOver.{New, NewOwn, NewBorrow, NewEnd}
 use Rattle.abi_machine.specs.Control.{EndRef}

@@ -18,7 +18,7 @@ use Rattle.comp_graph.specs.Needs as needs
 use Rattle.comp_graph.specs.Needs.{lift_type}
 use Rattle.comp_graph.specs.Graph.{CoreMake, Graph, Lifted, core_type, IsCanonThere, IsBuiltinThere, AreMade, none_made, instance_made, canon_made, resource_made}
 use Rattle.script_reader.specs.Script.{Script}
-use Rattle.trace_show.specs.declared.label.Label.{Label}
+use Rattle.trace_labels.specs.declared.label.Label.{Label}
 use Rattle.abi_machine.specs.Control.{Control, Free, Chosen, Instantiates, Runs, Arrives, Lowers, Quiet, Back, Goes as GoesOn, Resumes, Delivers, Leaves, Doomed}
 use Rattle.abi_machine.specs.Control as control
 use Rattle.abi_machine.specs.World.{Task, World, first_world}

@@ -3,7 +3,7 @@ use Rattle.std.proofs.Common.{◌≡◌, ◌≤◌, ◌⊎◌, inl, inr, ℕ, tr
 use Rattle.wasm_store.specs.Store.{Store}
 use Rattle.comp_graph.specs.Graph.{Graph}
 use Rattle.script_reader.specs.Script.{Script}
-use Rattle.trace_show.specs.declared.label.Label.{Label}
+use Rattle.trace_labels.specs.declared.label.Label.{Label}
 use Rattle.abi_machine.specs.World.{World}
 use Rattle.abi_machine.specs.Edits.{with_store}
 use Rattle.abi_machine.specs.Reading.{is_instantiated}

@@ -5,7 +5,7 @@ use Rattle.tasks.specs.Subtasks.{is_over}
 use Rattle.comp_graph.specs.declared.graph.CanonFunc.{CanonFunc}
 use Rattle.comp_graph.specs.Graph.{Graph}
 use Rattle.script_reader.specs.Script.{Script}
-use Rattle.trace_show.specs.declared.label.Label.{Label}
+use Rattle.trace_labels.specs.declared.label.Label.{Label}
 use Rattle.abi_machine.specs.World.{Entry, World, first_world}
 use Rattle.abi_machine.specs.Canons.{inst_of_canon, canon_at}
 use Rattle.abi_machine.specs.Reading.{entry_at}

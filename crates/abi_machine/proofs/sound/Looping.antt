@@ -12,7 +12,7 @@ use Rattle.entry_gate.specs.declared.callback.Next.{Next}
 use Rattle.entry_gate.specs.declared.callback.Next.TheVariants as next
 use Rattle.comp_graph.specs.Graph.{Graph, Lifted}
 use Rattle.script_reader.specs.Script.{Script}
-use Rattle.abi_machine.specs.World.{Entry, OfSubtask, OfSet, OfEnd, OwnHandle, BorrowHandle, Inst, Init, Nobody, Callee, Host, Guest, TaskState, New, Acting, AfterCall, AfterCancel, WaitsToEnter, InLoop, InBuiltin, Exited, Task, World, new_inst, new_task}
+use Rattle.abi_machine.specs.World.{Entry, OfSet, Inst, Callee, Host, Guest, TaskState, New, Acting, AfterCall, AfterCancel, WaitsToEnter, InLoop, InBuiltin, Exited, Task, World, new_inst, new_task}
 use Rattle.abi_machine.specs.World as world
 use Rattle.abi_machine.specs.Edits.{changed_at}
 use Rattle.abi_machine.specs.Reading.{table_in, entry_at, func_of, is_in, runs_in}
@@ -168,7 +168,7 @@ Loops w = HaveLoops w.tasks w.insts
 abbrev Kept : World → Type 0
 Kept w = HaveHistories w.insts × Loops w
 
-loops_kept : (g : Graph) (s : Script) (c : Change) (w : World) → MayCome g s c w → Besides ⊥ ⊥ ⊥ g c w → Kept w → Loops (after c w)
+loops_kept : (g : Graph) (s : Script) (c : Change) (w : World) → MayCome g s c w → Besides ⊥ ⊥ ⊥ ⊥ g c w → Kept w → Loops (after c w)
 loops_kept g s BeginsInstance w may b h = begun_stays w.tasks w.insts h.1
 loops_kept g s (AddsEntry i entry) w may b h = entry_stays w.tasks w.insts i _ entry (λ x index set history there. live_added x.table entry (OfSet set) index history there) h.0 h.1
 loops_kept g s (MakesSet i set) w may b h =

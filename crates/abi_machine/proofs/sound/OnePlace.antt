@@ -13,15 +13,16 @@ use Rattle.script_reader.specs.Script.{Script}
 use Rattle.abi_machine.specs.LoweringOver.{New, NewOwn, NewBorrow, NewEnd}
 use Rattle.abi_machine.specs.Control.{EndRef}
 use Rattle.abi_machine.specs.World.{Entry, OfSet, OfEnd, Inst, Channel, World, new_inst, new_channel}
-use Rattle.abi_machine.specs.Edits.{changed_at, changed_number, with_channel, channel_made, added, entry_added}
+use Rattle.abi_machine.specs.Edits.{changed_at, changed_number, with_channel, carried, channel_made, added, entry_added}
 use Rattle.abi_machine.specs.Reading.{table_in, channels}
 use Rattle.abi_machine.specs.Pausing.{entry_of}
 use Rattle.abi_machine.specs.replies.Streams.{end_ref}
 use Rattle.abi_machine.specs.sound.Changes.{Change, GoesTo, HasStore, SpendsUnit, UsesPicks, TakesItem, BeginsInstance, AddsEntry, MakesSet, RemovesEntry, RemovesWaitable, LeavesSet, JoinsSet, HasBackpressure, IsCalled, Calls, ComesBack, Acts, Begins, Cancels, Blocks, Exits, IsRemoved, Resolves, IsCancelled, HasWord, HasNewStack, HasStack, LosesStack, IsAnswered, IsTold, IsLent, HasResult, MakesChannel, Offers, Transfers, Concludes, DropsEnd, after}
 use Rattle.abi_machine.specs.sound.Premises.{Comes}
-use Rattle.abi_machine.specs.sound.EndPlaces.{EndStandsAt, EndStandsNowhere, made_count, WritersStand, WritersStandOnce, IsFreshEnd}
+use Rattle.abi_machine.specs.sound.EndPlaces.{EndStandsAt, EndStandsNowhere, made_count, IsLive, WritersStand, WritersStandOnce, IsFreshEnd}
 use Rattle.abi_machine.proofs.sound.Lists.{more_either, length_changed, length_more}
 use Rattle.abi_machine.proofs.sound.Found.{some_same}
+use Rattle.abi_machine.proofs.sound.ends.Live.{IsDroppedAt, concluded_drops, transferred_drops, offered_drops, other_drops, edit_live, made_live, same_end}
 
 -- what stood where an item is changed
 pub changed_back : {A : Type 0} (t : ℕ) (f : A → A) (xs : List A) (n : ℕ) (y : A) → slice_get (changed_at t f xs) n ≡ Some y
@@ -65,6 +66,7 @@ stand_as : (insts others : List Inst) (streams futures : List Channel) → ((j i
 stand_as insts others streams futures back h = record {
   once = λ i index j other e side a b. h.once i index j other e side (back i index e a) (back j other e b);
   made = λ i index e side a. h.made i index e side (back i index e a);
+  live = λ i index e side a. h.live i index e side (back i index e a);
 }
 
 none_added : (insts : List Inst) (streams futures : List Channel) (i : ℕ) (f : Inst → Inst) → AddsNone f → WritersStand insts streams futures → WritersStand (changed_at i f insts) streams futures
@@ -138,11 +140,19 @@ add_stands w i entry fresh h = record {
     | inl new ↦ made_so e side (subst (IsFreshEnd w) new.2 fresh)
     | inr old ↦ h.made k index e side old
   ];
+  live = λ k index e side a. elim (add_back w.insts i entry k index e a) [
+    | inl new ↦ live_so e side (subst (IsFreshEnd w) new.2 fresh)
+    | inr old ↦ h.live k index e side old
+  ];
 }
   where
     made_so : (e : EndRef) → e.side ≡ Writer → IsFreshEnd w (OfEnd e) → e.number ≤ made_count e.kind w.streams w.futures
     made_so e side (inl reads) = absurd (reads_no_write e.side reads side)
     made_so e side (inr new) = new.0
+
+    live_so : (e : EndRef) → e.side ≡ Writer → IsFreshEnd w (OfEnd e) → IsLive e w.streams w.futures
+    live_so e side (inl reads) = absurd (reads_no_write e.side reads side)
+    live_so e side (inr new) = new.2
 
     nowhere_so : (e : EndRef) → e.side ≡ Writer → IsFreshEnd w (OfEnd e) → EndStandsNowhere w.insts e
     nowhere_so e side (inl reads) = absurd (reads_no_write e.side reads side)
@@ -162,35 +172,44 @@ number_long : (number : ℕ) (f : Channel → Channel) (all : List Channel) → 
 number_long zero f all = refl
 number_long (suc place) f all = length_changed place f all
 
-counted_as : (insts : List Inst) (streams futures more others : List Channel) → ((k : EndKind) → made_count k streams futures ≤ made_count k more others) → WritersStand insts streams futures
+counted_as : (insts : List Inst) (streams futures more others : List Channel) → ((k : EndKind) → made_count k streams futures ≤ made_count k more others)
+    → ((i index : ℕ) (e : EndRef) → e.side ≡ Writer → EndStandsAt insts i index e → IsLive e streams futures → IsLive e more others) → WritersStand insts streams futures
     → WritersStand insts more others
-counted_as insts streams futures more others less h = record {
+counted_as insts streams futures more others less still h = record {
   once = h.once;
   made = λ i index e side a.
       let was : e.number ≤ made_count e.kind streams futures = h.made i index e side a in
       let now : made_count e.kind streams futures ≤ made_count e.kind more others = less e.kind in
       omega (arith, was, now);
+  live = λ i index e side a. still i index e side a (h.live i index e side a);
 }
 
-channel_stands : (kind : EndKind) (number : ℕ) (f : Channel → Channel) (w : World) → WritersStandOnce w → WritersStandOnce (with_channel kind number f w)
-channel_stands Stream number f w h = counted_as w.insts w.streams w.futures _ w.futures less h
+-- What is done to a stream or a future leaves the writable ends that stand as they are.
+abbrev KeepsEnds : EndKind → ℕ → (Channel → Channel) → World → Type 0
+KeepsEnds kind number f w =
+    (i index : ℕ) (e : EndRef) (c : Channel) → e.side ≡ Writer → EndStandsAt w.insts i index e → e.kind ≡ kind → e.number ≡ number → IsDroppedAt e.side (f c) ≡ IsDroppedAt e.side c
+
+channel_stands : (kind : EndKind) (number : ℕ) (f : Channel → Channel) (w : World) → KeepsEnds kind number f w → WritersStandOnce w → WritersStandOnce (with_channel kind number f w)
+channel_stands Stream number f w keeps h =
+    counted_as w.insts w.streams w.futures (changed_number number f w.streams) w.futures less (λ i index e side there l. edit_live Stream e.kind number e.number e.side f w (λ c. keeps i index e c side there) l) h
   where
     less : (k : EndKind) → made_count k w.streams w.futures ≤ made_count k (changed_number number f w.streams) w.futures
     less Stream = (let same : length (changed_number number f w.streams) ≡ length w.streams = number_long number f w.streams in omega (arith, same))
     less Future = omega arith
-channel_stands Future number f w h = counted_as w.insts w.streams w.futures w.streams _ less h
+channel_stands Future number f w keeps h =
+    counted_as w.insts w.streams w.futures w.streams (changed_number number f w.futures) less (λ i index e side there l. edit_live Future e.kind number e.number e.side f w (λ c. keeps i index e c side there) l) h
   where
     less : (k : EndKind) → made_count k w.streams w.futures ≤ made_count k w.streams (changed_number number f w.futures)
     less Stream = omega arith
     less Future = (let same : length (changed_number number f w.futures) ≡ length w.futures = number_long number f w.futures in omega (arith, same))
 
 made_stands : (kind : EndKind) (element : Option ValType) (w : World) → WritersStandOnce w → WritersStandOnce (channel_made kind element w)
-made_stands Stream element w h = counted_as w.insts w.streams w.futures _ w.futures less h
+made_stands Stream element w h = counted_as w.insts w.streams w.futures (w.streams ++ new_channel element ∷ []) w.futures less (λ i index e side there l. made_live Stream e.kind e.number e.side element w l) h
   where
     less : (k : EndKind) → made_count k w.streams w.futures ≤ made_count k (w.streams ++ new_channel element ∷ []) w.futures
     less Stream = (let longer : length (w.streams ++ new_channel element ∷ []) ≡ suc (length w.streams) = length_more w.streams (new_channel element) in omega (arith, longer))
     less Future = omega arith
-made_stands Future element w h = counted_as w.insts w.streams w.futures w.streams _ less h
+made_stands Future element w h = counted_as w.insts w.streams w.futures w.streams (w.futures ++ new_channel element ∷ []) less (λ i index e side there l. made_live Future e.kind e.number e.side element w l) h
   where
     less : (k : EndKind) → made_count k w.streams w.futures ≤ made_count k w.streams (w.futures ++ new_channel element ∷ [])
     less Stream = omega arith
@@ -243,10 +262,15 @@ writers_kept g s (LeavesSet i index) w may h = same_tables w.insts w.streams w.f
 writers_kept g s (JoinsSet i index set) w may h = same_tables w.insts w.streams w.futures i _ (λ x. refl) h
 writers_kept g s (HasBackpressure i pressure) w may h = same_tables w.insts w.streams w.futures i _ (λ x. refl) h
 writers_kept g s (MakesChannel kind element) w may h = made_stands kind element w h
-writers_kept g s (Offers e call) w may h = channel_stands e.kind e.number _ w h
-writers_kept g s (Transfers e size values) w may h = channel_stands e.kind e.number _ _ (channel_stands e.kind e.number _ w h)
-writers_kept g s (Concludes e) w may h = channel_stands e.kind e.number _ w h
-writers_kept g s (DropsEnd e) w may h = channel_stands e.kind e.number _ w h
+writers_kept g s (Offers e call) w may h = channel_stands e.kind e.number _ w (λ i index x c side there kind number. offered_drops e.kind e.side call c.ends x.side) h
+writers_kept g s (Transfers e size values) w may h =
+    channel_stands e.kind e.number _ (with_channel e.kind e.number (carried values) w) (λ i index x c side there kind number. transferred_drops e.kind e.side size (length values) c.ends x.side)
+    (channel_stands e.kind e.number (carried values) w (λ i index x c side there kind number. refl) h)
+writers_kept g s (Concludes e) w may h = channel_stands e.kind e.number _ w (λ i index x c side there kind number. concluded_drops e.kind e.side c.ends x.side) h
+writers_kept g s (DropsEnd e) w may h =
+    channel_stands e.kind e.number _ w
+    (λ i index x c side there kind number.
+    other_drops e.side x.side c.ends (λ same. may.1.0 (sym same ∙ side) i index (subst (EndStandsAt w.insts i index) (same_end x e kind number same) there))) h
 writers_kept g s (GoesTo control) w may h = h
 writers_kept g s (HasStore store) w may h = h
 writers_kept g s SpendsUnit w may h = h

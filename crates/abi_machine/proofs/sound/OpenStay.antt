@@ -9,6 +9,7 @@ use Rattle.stream_ends.specs.declared.open_copy.CopyEvent.TheVariants.{Dropped a
 use Rattle.stream_ends.specs.declared.open_copy.OpenCopy.{OpenCopy}
 use Rattle.stream_ends.specs.declared.stream_end.End.{End}
 use Rattle.stream_ends.specs.declared.meet.Meet.TheVariants.{Copies, Dropped, Displaces, ZeroDone, NothingNow}
+use Rattle.stream_ends.specs.declared.meet.Meet.TheVariants as stream_case
 use Rattle.stream_ends.specs.Ends.{EndsView, Ends, end_at, standing_of, replaced, leaves, hears_of_drop, grown}
 use Rattle.stream_ends.specs.Meeting.{Meeting, met, met_offer, met_full, room_meet, is_empty_pair, with_offer, made_done, standing_side, changed, after_dropping}
 use Rattle.stream_ends.proofs.Meetings.{if_holds, standing_is}
@@ -18,7 +19,7 @@ use Rattle.future_ends.proofs.Meetings as future_meetings
 use Rattle.abi_machine.specs.World.{Channel, World}
 use Rattle.abi_machine.specs.Edits.{changed_number, with_channel, offered_by, transferred_by, concluded_by}
 use Rattle.abi_machine.specs.Reading.{numbered}
-use Rattle.abi_machine.specs.Copying.{Stands, stream_met, future_met, met_by}
+use Rattle.abi_machine.specs.Copying.{AtOnce, Stands, stream_met, future_met, met_by}
 use Rattle.abi_machine.specs.sound.EndPlaces.{channel_in}
 use Rattle.abi_machine.proofs.sound.Found.{some_same, changed_there}
 use Rattle.abi_machine.proofs.sound.Acted.{changed_where}
@@ -169,6 +170,55 @@ stands_offered Stream Reader call ends e = met_offers Reader call ends.view.read
 stands_offered Stream Writer call ends e = met_offers Writer call ends.view.writer ends.view.reader e
 stands_offered Future Reader call ends e = future_offers call ends.view.reader ends.view.writer e
 stands_offered Future Writer call ends e = future_offers call ends.view.writer ends.view.reader e
+
+-- Where it is answered at once its end is left alone.
+
+abbrev IsLeftAlone : End → Meeting → Type 0
+IsLeftAlone own m = (payload : ℕ) → stream_met m.meet ≡ AtOnce payload → m.own.copy ≡ own.copy
+
+stands_not_at_once : (payload : ℕ) → stream_met stream_case.Stands ≡ AtOnce payload → ⊥
+stands_not_at_once payload e = cc
+
+displaces_not_at_once : (payload : ℕ) → stream_met Displaces ≡ AtOnce payload → ⊥
+displaces_not_at_once payload e = cc
+
+offer_leaves_alone : (side : Side) (call : OpenCopy) (own other : End) (o : Option OpenCopy) → IsLeftAlone own (met_offer side call own other o)
+offer_leaves_alone side call own other None = λ payload e. absurd (stands_not_at_once payload e)
+offer_leaves_alone side call own other (Some offer) =
+    if_holds (IsLeftAlone own) (nat_lt offer.copied offer.length) (record { meet = room_meet call offer; own = own; other = other }) (met_full side call own other offer)
+    (λ _. λ payload e. refl)
+    (λ _.
+    if_holds (IsLeftAlone own) (is_empty_pair side call offer) (record { meet = ZeroDone; own = own; other = other }) (record { meet = Displaces; own = with_offer call own; other = leaves other })
+    (λ _. λ payload e. refl) (λ _. λ payload e. absurd (displaces_not_at_once payload e)))
+
+met_leaves_alone : (side : Side) (call : OpenCopy) (own other : End) → IsLeftAlone own (met side call own other)
+unfolding met
+met_leaves_alone side call own other =
+    if_holds (IsLeftAlone own) other.dropped (record { meet = Dropped; own = made_done own; other = other }) (met_offer side call own other (standing_of other.copy))
+    (λ _. λ payload e. refl) (λ _. offer_leaves_alone side call own other (standing_of other.copy))
+
+abbrev IsFutureLeft : End → future.Meeting → Type 0
+IsFutureLeft own m = (payload : ℕ) → future_met m.meet ≡ AtOnce payload → m.own.copy ≡ own.copy
+
+future_stands_not : (payload : ℕ) → future_met future_case.Stands ≡ AtOnce payload → ⊥
+future_stands_not payload e = cc
+
+future_offer_leaves : (call : OpenCopy) (own : End) (o : Option OpenCopy) → IsFutureLeft own (future.met_offer call own o)
+future_offer_leaves call own None = λ payload e. absurd (future_stands_not payload e)
+future_offer_leaves call own (Some offer) = λ payload e. refl
+
+future_leaves : (call : OpenCopy) (own other : End) → IsFutureLeft own (future.met call own other)
+unfolding future.met
+future_leaves call own other =
+    future_meetings.if_holds (IsFutureLeft own) other.dropped (record { meet = future_case.Dropped; own = made_done own }) (future.met_offer call own (standing_of other.copy)) (λ payload e. refl)
+    (future_offer_leaves call own (standing_of other.copy))
+
+pub at_once_leaves : (kind : EndKind) (side : Side) (call : OpenCopy) (ends : Ends) (payload : ℕ) → met_by kind side call ends.view ≡ AtOnce payload
+    → (end_at side (offered_by kind side call ends).view).copy ≡ (end_at side ends.view).copy
+at_once_leaves Stream Reader call ends payload e = met_leaves_alone Reader call ends.view.reader ends.view.writer payload e
+at_once_leaves Stream Writer call ends payload e = met_leaves_alone Writer call ends.view.writer ends.view.reader payload e
+at_once_leaves Future Reader call ends payload e = future_leaves call ends.view.reader ends.view.writer payload e
+at_once_leaves Future Writer call ends payload e = future_leaves call ends.view.writer ends.view.reader payload e
 
 -- Streams and futures behind a change of one.
 

@@ -5,7 +5,7 @@ use Rattle.std.specs.List.{slice_get}
 use Rattle.tasks.specs.declared.phase.Cancellation.TheVariants.{Asked}
 use Rattle.comp_graph.specs.Graph.{Graph}
 use Rattle.script_reader.specs.Script.{Script}
-use Rattle.trace_show.specs.declared.label.Label.{Label}
+use Rattle.trace_labels.specs.declared.label.Label.{Label}
 use Rattle.abi_machine.specs.Control.{Control}
 use Rattle.abi_machine.specs.World.{Init, Nobody, TaskState, Acting, AfterCancel, Task, World, first_world, new_task}
 use Rattle.abi_machine.specs.Reading.{func_of, may_leave}

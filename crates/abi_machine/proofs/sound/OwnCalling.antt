@@ -73,7 +73,7 @@ module _ (g : Graph) where
   abbrev AreBy : World → Type 0
   AreBy w = AreByOwn g w.tasks
 
-  kept_by : (c : Change) (w : World) → Besides ⊥ ⊥ ⊥ g c w → Owns g c w → AreBy w → AreBy (after c w)
+  kept_by : (c : Change) (w : World) → Besides ⊥ ⊥ ⊥ ⊥ g c w → Owns g c w → AreBy w → AreBy (after c w)
   kept_by (IsCalled callee call values) w b own h = more_so w.tasks (new_task callee (Host call values) New) tt h
   kept_by (Calls number callee subtask words) w b own h =
       let f : Task → Task = λ task. record task { state = AfterCall (length w.tasks) number words } in

@@ -143,7 +143,7 @@ Sets w = HaveSets w.tasks w.insts
 abbrev Kept : Graph → World → Type 0
 Kept g w = HaveHistories w.insts × IsOwnWorld g w × Sets w
 
-sets_kept : (g : Graph) (s : Script) (c : Change) (w : World) → MayCome g s c w → Besides ⊥ ⊥ ⊥ g c w → Owns g c w → HaveHistories w.insts → Sets w → Sets (after c w)
+sets_kept : (g : Graph) (s : Script) (c : Change) (w : World) → MayCome g s c w → Besides ⊥ ⊥ ⊥ ⊥ g c w → Owns g c w → HaveHistories w.insts → Sets w → Sets (after c w)
 sets_kept g s BeginsInstance w may b own history h = begun_stays w.tasks w.insts h
 sets_kept g s (AddsEntry i entry) w may b own history h = entry_stays w.tasks w.insts i _ (λ x index set old there. live_added x.table entry (OfSet set) index old there) history h
 sets_kept g s (MakesSet i set) w may b own history h =

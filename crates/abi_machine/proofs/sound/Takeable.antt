@@ -14,7 +14,7 @@ use Rattle.stream_ends.specs.declared.side.Side.TheVariants.{Reader, Writer}
 use Rattle.stream_ends.specs.Ends.{is_idle}
 use Rattle.tasks.specs.Subtasks.{is_over}
 use Rattle.stream_ends.specs.declared.open_copy.OpenCopy.{OpenCopy}
-use Rattle.trace_show.specs.declared.trap.TrapName.TheVariants as trap
+use Rattle.trace_labels.specs.declared.trap.TrapName.TheVariants as trap
 use Rattle.abi_machine.specs.SameTypes.{same_held}
 use Rattle.abi_machine.specs.Control.{EndRef}
 use Rattle.abi_machine.specs.World.{Entry, OwnHandle, BorrowHandle, OfSubtask, OfSet, OfEnd, World}

@@ -8,7 +8,7 @@ use Rattle.tasks.specs.declared.phase.Resolution.{Resolution}
 use Rattle.tasks.specs.declared.phase.Resolution.TheVariants.{Returned, Cancelled}
 use Rattle.comp_graph.specs.Graph.{Graph}
 use Rattle.script_reader.specs.Script.{Script}
-use Rattle.trace_show.specs.declared.label.Label.{Label}
+use Rattle.trace_labels.specs.declared.label.Label.{Label}
 use Rattle.builtin_kinds.specs.declared.EndKind.{EndKind}
 use Rattle.builtin_kinds.specs.declared.EndKind.TheVariants.{Stream, Future}
 use Rattle.ca_types.specs.declared.types.ValType.{ValType}

@@ -1,3 +1,4 @@
+pub mod Live
 pub mod Apart
 pub mod Values
 pub mod Lowered

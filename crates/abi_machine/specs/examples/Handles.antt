@@ -14,13 +14,13 @@ use Rattle.builtin_kinds.specs.declared.WaitOp.TheVariants.{Wait}
 use Rattle.builtin_kinds.specs.declared.ContextOp.TheVariants.{Get, Set}
 use Rattle.comp_graph.specs.declared.graph.CanonFunc.{CanonFunc}
 use Rattle.comp_graph.specs.Graph.{Graph, no_options, canon_type}
-use Rattle.trace_show.specs.declared.builtin.Builtin.TheVariants as builtin
-use Rattle.trace_show.specs.declared.label.BlockReason.TheVariants as reason
-use Rattle.trace_show.specs.declared.label.Label.{Label}
-use Rattle.trace_show.specs.declared.label.Label.TheVariants as line
-use Rattle.trace_show.specs.declared.typed.TypedValue.{TypedValue}
-use Rattle.trace_show.specs.declared.dump.LiveEntry.{LiveEntry}
-use Rattle.trace_show.specs.declared.dump.Entry.TheVariants as entry
+use Rattle.trace_labels.specs.declared.builtin.Builtin.TheVariants as builtin
+use Rattle.trace_labels.specs.declared.label.BlockReason.TheVariants as reason
+use Rattle.trace_labels.specs.declared.label.Label.{Label}
+use Rattle.trace_labels.specs.declared.label.Label.TheVariants as line
+use Rattle.trace_labels.specs.declared.typed.TypedValue.{TypedValue}
+use Rattle.trace_labels.specs.declared.dump.LiveEntry.{LiveEntry}
+use Rattle.trace_labels.specs.declared.dump.Entry.TheVariants as entry
 use Rattle.abi_machine.specs.World.{World, new_inst}
 use Rattle.abi_machine.specs.examples.Parts.{func_type, words, own, calls, asks, plain, resource, context, wait, task_return, lower, core_at, core_func, asynchronous, lift, graph_of, store_of, instantiated, acting}
 

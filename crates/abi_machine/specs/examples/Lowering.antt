@@ -12,10 +12,10 @@ use Rattle.comp_graph.specs.declared.graph.CanonFunc.{CanonFunc}
 use Rattle.comp_graph.specs.Graph.{Graph, no_options}
 use Rattle.script_reader.specs.declared.script.Item.TheVariants.{Call}
 use Rattle.script_reader.specs.Script.{Script}
-use Rattle.trace_show.specs.declared.builtin.Builtin.TheVariants as builtin
-use Rattle.trace_show.specs.declared.label.Label.{Label}
-use Rattle.trace_show.specs.declared.label.Label.TheVariants as line
-use Rattle.trace_show.specs.declared.typed.TypedValue.{TypedValue}
+use Rattle.trace_labels.specs.declared.builtin.Builtin.TheVariants as builtin
+use Rattle.trace_labels.specs.declared.label.Label.{Label}
+use Rattle.trace_labels.specs.declared.label.Label.TheVariants as line
+use Rattle.trace_labels.specs.declared.typed.TypedValue.{TypedValue}
 use Rattle.abi_machine.specs.World.{World}
 use Rattle.abi_machine.specs.examples.Parts.{func_type, of_nothing, words, own, number, calls, lower, with_memory, with_realloc, lift, graph_of, exported, store_of, instantiated, acting, run_name, script_of}
 

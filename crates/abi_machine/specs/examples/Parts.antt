@@ -33,8 +33,8 @@ use Rattle.comp_graph.specs.Graph.{Graph, no_options}
 use Rattle.script_reader.specs.declared.script.Item.{Item}
 use Rattle.script_reader.specs.declared.script.Item.TheVariants as item
 use Rattle.script_reader.specs.Script.{Script}
-use Rattle.trace_show.specs.declared.label.Label.{Label}
-use Rattle.trace_show.specs.declared.dump.LiveEntry.{LiveEntry}
+use Rattle.trace_labels.specs.declared.label.Label.{Label}
+use Rattle.trace_labels.specs.declared.dump.LiveEntry.{LiveEntry}
 use Rattle.abi_machine.specs.declared.run_end.RunEnd.{RunEnd}
 use Rattle.abi_machine.specs.Control.{Free, Runs}
 use Rattle.abi_machine.specs.World.{Init, Func, Nobody, Host, Acting, Exited, Task, World, new_inst, new_task}

@@ -8,10 +8,10 @@ use Rattle.builtin_kinds.specs.declared.WaitOp.TheVariants.{Poll}
 use Rattle.comp_graph.specs.declared.graph.CanonFunc.{CanonFunc}
 use Rattle.comp_graph.specs.Graph.{Graph, no_options, canon_type}
 use Rattle.script_reader.specs.Script.{Script}
-use Rattle.trace_show.specs.declared.builtin.Builtin.TheVariants as builtin
-use Rattle.trace_show.specs.declared.label.BlockReason.TheVariants as reason
-use Rattle.trace_show.specs.declared.label.Label.{Label}
-use Rattle.trace_show.specs.declared.label.Label.TheVariants as line
+use Rattle.trace_labels.specs.declared.builtin.Builtin.TheVariants as builtin
+use Rattle.trace_labels.specs.declared.label.BlockReason.TheVariants as reason
+use Rattle.trace_labels.specs.declared.label.Label.{Label}
+use Rattle.trace_labels.specs.declared.label.Label.TheVariants as line
 use Rattle.abi_machine.specs.World.{World}
 use Rattle.abi_machine.specs.examples.Parts.{of_nothing, words, own, number, calls, asks, plain, wait, task_return, lower, core_at, asynchronous, callback, lift, graph_of, exported, store_of, instantiated, script_of, call}
 use Rattle.abi_machine.specs.examples.Cancelling.{wait_word}

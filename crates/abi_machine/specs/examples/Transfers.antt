@@ -12,16 +12,16 @@ use Rattle.comp_graph.specs.declared.graph.CanonFunc.{CanonFunc}
 use Rattle.comp_graph.specs.declared.graph.Options.{Options}
 use Rattle.comp_graph.specs.Graph.{Graph, no_options}
 use Rattle.script_reader.specs.Script.{Script}
-use Rattle.trace_show.specs.declared.builtin.Builtin.TheVariants as builtin
-use Rattle.trace_show.specs.declared.label.BlockReason.TheVariants as reason
-use Rattle.trace_show.specs.declared.label.Channel.TheVariants as channel
-use Rattle.trace_show.specs.declared.label.Copied.TheVariants.{Values}
-use Rattle.trace_show.specs.declared.label.Label.{Label}
-use Rattle.trace_show.specs.declared.label.Label.TheVariants as line
-use Rattle.trace_show.specs.declared.dump.LiveEntry.{LiveEntry}
-use Rattle.trace_show.specs.declared.dump.Entry.TheVariants as entry
-use Rattle.trace_show.specs.declared.dump.EndState.TheVariants.{Idle, Copying}
-use Rattle.trace_show.specs.declared.dump.Side.TheVariants.{Readable, Writable}
+use Rattle.trace_labels.specs.declared.builtin.Builtin.TheVariants as builtin
+use Rattle.trace_labels.specs.declared.label.BlockReason.TheVariants as reason
+use Rattle.trace_labels.specs.declared.label.Channel.TheVariants as channel
+use Rattle.trace_labels.specs.declared.label.Copied.TheVariants.{Values}
+use Rattle.trace_labels.specs.declared.label.Label.{Label}
+use Rattle.trace_labels.specs.declared.label.Label.TheVariants as line
+use Rattle.trace_labels.specs.declared.dump.LiveEntry.{LiveEntry}
+use Rattle.trace_labels.specs.declared.dump.Entry.TheVariants as entry
+use Rattle.trace_labels.specs.declared.dump.EndState.TheVariants.{Idle, Copying}
+use Rattle.trace_labels.specs.declared.dump.Side.TheVariants.{Readable, Writable}
 use Rattle.abi_machine.specs.World.{World}
 use Rattle.abi_machine.specs.examples.Parts.{func_type, of_nothing, words, to_both, own, number, calls, asks, ends, task_return, lower, asynchronous, with_memory, with_realloc, lift, graph_of, exported, store_of, instantiated, acting, script_of, call}
 use Rattle.abi_machine.specs.examples.Streams.{reading, writing, of_bytes, copies_async, made, stands, written, written_of, run_ends}

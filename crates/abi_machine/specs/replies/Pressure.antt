@@ -1,7 +1,7 @@
 -- Backpressure (Component Model, CanonicalABI.md, `canon backpressure.set`, `canon backpressure.{inc,dec}`): above 0 no task enters the instance.
 use Rattle.std.specs.Prelude.{ℕ, ◌+◌, ◌-◌, nat_eq, nat_le, []}
 use Rattle.entry_gate.specs.Gates.{set_pressure}
-use Rattle.trace_show.specs.declared.trap.TrapName.TheVariants as trap
+use Rattle.trace_labels.specs.declared.trap.TrapName.TheVariants as trap
 use Rattle.abi_machine.specs.World.{World}
 use Rattle.abi_machine.specs.Edits.{with_backpressure}
 use Rattle.abi_machine.specs.Reading.{backpressure_of}

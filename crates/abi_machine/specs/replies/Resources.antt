@@ -10,7 +10,7 @@ use Rattle.res_handles.specs.Refusals.{dropped_in}
 use Rattle.comp_graph.specs.declared.graph.FuncRef.{FuncRef}
 use Rattle.comp_graph.specs.declared.graph.Resource.{Resource}
 use Rattle.comp_graph.specs.Graph.{Graph}
-use Rattle.trace_show.specs.declared.trap.TrapName.TheVariants as trap
+use Rattle.trace_labels.specs.declared.trap.TrapName.TheVariants as trap
 use Rattle.abi_machine.specs.Traps.{renamed, refusal_name}
 use Rattle.abi_machine.specs.Control.{Runs}
 use Rattle.abi_machine.specs.World.{OwnHandle, Destroys, World}

@@ -3,7 +3,7 @@ use Rattle.std.specs.Prelude.{ℕ, not, slice_index, if◌then◌else◌, List, 
 use Rattle.tasks.specs.Tasks.{is_unasked}
 use Rattle.tasks.specs.Subtasks.{is_over}
 use Rattle.comp_graph.specs.Graph.{Graph}
-use Rattle.trace_show.specs.declared.trap.TrapName.TheVariants as trap
+use Rattle.trace_labels.specs.declared.trap.TrapName.TheVariants as trap
 use Rattle.abi_machine.specs.Control.{Back}
 use Rattle.abi_machine.specs.World.{AfterCancel, Task, World}
 use Rattle.abi_machine.specs.Edits.{entry_removed, left_set, in_state}

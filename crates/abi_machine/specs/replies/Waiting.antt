@@ -7,8 +7,8 @@ use Rattle.builtin_kinds.specs.declared.WaitOp.{WaitOp}
 use Rattle.builtin_kinds.specs.declared.WaitOp.TheVariants as wait_op
 use Rattle.tasks.specs.Tasks.{is_sync, is_asked}
 use Rattle.comp_graph.specs.Graph.{Graph, Lifted}
-use Rattle.trace_show.specs.declared.label.BlockReason.TheVariants as reason
-use Rattle.trace_show.specs.declared.trap.TrapName.TheVariants as trap
+use Rattle.trace_labels.specs.declared.label.BlockReason.TheVariants as reason
+use Rattle.trace_labels.specs.declared.trap.TrapName.TheVariants as trap
 use Rattle.abi_machine.specs.Traps.{renamed, set_name}
 use Rattle.abi_machine.specs.Control.{InWait, Delivers}
 use Rattle.abi_machine.specs.World.{OfSet, ForSet, InBuiltin, Task, World}

@@ -8,8 +8,8 @@ use Rattle.wasm_numbers.specs.Types.{AreWords}
 use Rattle.comp_graph.specs.declared.graph.CanonFunc.{CanonFunc}
 use Rattle.comp_graph.specs.Graph.{Graph, canon_type}
 use Rattle.script_reader.specs.Script.{Script}
-use Rattle.trace_show.specs.declared.label.Label.{Label}
-use Rattle.trace_show.specs.declared.label.Label.TheVariants as line
+use Rattle.trace_labels.specs.declared.label.Label.{Label}
+use Rattle.trace_labels.specs.declared.label.Label.TheVariants as line
 use Rattle.abi_machine.specs.Control.{Receiver, InWait, InCallback, After, Replies, Finishes, Then, Starts, Resolves, Transfers, HostedState, Going, AtCall, Control, Runs, Calls, Lowers, Quiet, Back, Resumes, Delivers}
 use Rattle.abi_machine.specs.World.{Entry, OwnHandle, BorrowHandle, OfSubtask, OfSet, OfEnd, Subtask, Wait, ForYield, ForSet, ForCall, ForCopy, ForCancel, TaskState, AfterCall, AfterCancel, InBuiltin, Task, World}
 use Rattle.abi_machine.specs.Canons.{canon_at, options_at}

@@ -13,7 +13,7 @@ use Rattle.comp_graph.specs.Needs as needs
 use Rattle.comp_graph.specs.declared.graph.Resource.{Resource}
 use Rattle.comp_graph.specs.Graph.{Graph, Lifted, IsLiftThere, AreMade}
 use Rattle.script_reader.specs.Script.{Script}
-use Rattle.trace_show.specs.declared.label.Label.{Label}
+use Rattle.trace_labels.specs.declared.label.Label.{Label}
 use Rattle.abi_machine.specs.World.{Task, World, first_world}
 use Rattle.abi_machine.specs.Canons.{func_address, resource_at}
 use Rattle.abi_machine.specs.Reading.{func_of}

@@ -4,7 +4,7 @@ use Rattle.std.specs.Prelude.{◌≡◌, List, IsSome}
 use Rattle.std.specs.List.{AllByRecursion}
 use Rattle.comp_graph.specs.Graph.{Graph}
 use Rattle.script_reader.specs.Script.{Script}
-use Rattle.trace_show.specs.declared.label.Label.{Label}
+use Rattle.trace_labels.specs.declared.label.Label.{Label}
 use Rattle.abi_machine.specs.World.{Caller, Nobody, Host, Guest, Task, World, first_world}
 use Rattle.abi_machine.specs.Canons.{canon_at}
 use Rattle.abi_machine.specs.Turn.{Steps}

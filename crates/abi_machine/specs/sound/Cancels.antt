@@ -7,7 +7,7 @@ use Rattle.tasks.specs.Subtasks.{is_over}
 use Rattle.tasks.specs.Tasks.{is_unasked}
 use Rattle.comp_graph.specs.Graph.{Graph, Lifted}
 use Rattle.script_reader.specs.Script.{Script}
-use Rattle.trace_show.specs.declared.label.Label.{Label}
+use Rattle.trace_labels.specs.declared.label.Label.{Label}
 use Rattle.abi_machine.specs.World.{Inst, Subtask, ForCancel, TaskState, AfterCancel, InBuiltin, Task, World, first_world}
 use Rattle.abi_machine.specs.Reading.{func_of}
 use Rattle.abi_machine.specs.Cancelling.{first_of}

@@ -11,7 +11,7 @@ use Rattle.stream_ends.specs.Ends.{end_at}
 use Rattle.comp_graph.specs.declared.graph.Options.{Options}
 use Rattle.comp_graph.specs.Graph.{Graph}
 use Rattle.script_reader.specs.Script.{Script}
-use Rattle.trace_show.specs.declared.label.Label.{Label}
+use Rattle.trace_labels.specs.declared.label.Label.{Label}
 use Rattle.abi_machine.specs.Control.{EndRef}
 use Rattle.abi_machine.specs.World.{Channel, World, first_world}
 use Rattle.abi_machine.specs.Canons.{memory_of, bytes_of, options_at}

@@ -11,7 +11,7 @@ use Rattle.stream_ends.specs.Ends.{is_pending}
 use Rattle.tasks.specs.Tasks.{is_asked}
 use Rattle.comp_graph.specs.Graph.{Graph, Lifted}
 use Rattle.script_reader.specs.Script.{Script}
-use Rattle.trace_show.specs.declared.label.Label.{Label}
+use Rattle.trace_labels.specs.declared.label.Label.{Label}
 use Rattle.abi_machine.specs.declared.run_end.RunEnd.TheVariants.{Deadlock}
 use Rattle.abi_machine.specs.Control.{EndRef}
 use Rattle.abi_machine.specs.World.{Wait, ForYield, ForSet, ForCall, ForCopy, ForCancel, TaskState, WaitsToEnter, InLoop, InBuiltin, Task, World, first_world}

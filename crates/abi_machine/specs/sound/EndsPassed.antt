@@ -1,7 +1,8 @@
 -- Readable ends (Component Model, CanonicalABI.md, "Stream State" and "Future State", `lift_stream`, `lift_future`, `lower_stream` and
--- `lower_future`): each stands in one table at most, at one index, and is of a stream or a future that was made. Those that are passed in values
--- stand in no table meanwhile, and what is left of the plan of a lowering adds each of them once at most. The script passes none.
-use Rattle.std.specs.Prelude.{◌≡◌, ◌⊎◌, ℕ, List, [], ◌∷◌, Option, Some, None, IsSome}
+-- `lower_future`, `canon stream.drop-readable`): each stands in one table at most, at one index, is of a stream or a future that was made, and was not
+-- dropped. Those that are passed in values were not either, stand in no table meanwhile, and what is left of the plan of a lowering adds each of them
+-- once at most. The script passes none.
+use Rattle.std.specs.Prelude.{◌≡◌, ◌⊎◌, ℕ, List, [], ◌∷◌, Option, Some, None}
 use Rattle.std.specs.List.{slice_get, flat_map, AllByRecursion}
 use Rattle.ca_types.specs.declared.value.Value.{Value, fold-Value}
 use Rattle.ca_types.specs.declared.value.Value.TheOpen.{Value-F}
@@ -15,7 +16,7 @@ use Rattle.script_reader.specs.Script.{Script}
 use Rattle.abi_machine.specs.LoweringOver.{New, NewOwn, NewBorrow, NewEnd, Plan, Gives, Fails, Asks, Size, Put, Adds}
 use Rattle.abi_machine.specs.Control.{EndRef, Behind, InLowering, BeforeLeaving, Control, Lowers, Quiet}
 use Rattle.abi_machine.specs.World.{Entry, OfEnd, Inst, Caller, Nobody, Host, Guest, Task, Channel, World}
-use Rattle.abi_machine.specs.sound.EndPlaces.{EndStandsAt, EndStandsNowhere, channel_in}
+use Rattle.abi_machine.specs.sound.EndPlaces.{EndStandsAt, EndStandsNowhere, IsLive}
 
 -- the readable end of the stream or the future of a number
 abbrev pub readable : EndKind → ℕ → EndRef
@@ -66,19 +67,16 @@ AddsOnce (Size k) P = (size : ℕ) → AddsOnce (k size) P
 AddsOnce (Put place bytes k) P = AddsOnce k P
 AddsOnce (Adds entry k) P = IsOfNew entry P × ((index : Option ℕ) → AddsOnce (k index) (ButNew entry P))
 
--- An end stands in a table; its stream or future was made; and it was, and the end stands in no table.
+-- An end stands in a table; and it was not dropped, and stands in no table.
 abbrev pub EndStands : List Inst → EndRef → Type 0
 EndStands insts e = (i : ℕ) × (index : ℕ) × EndStandsAt insts i index e
 
-abbrev pub WasMade : EndRef → List Channel → List Channel → Type 0
-WasMade e streams futures = IsSome (channel_in e.kind e.number streams futures)
-
 abbrev pub IsOnTheWay : List Inst → List Channel → List Channel → EndRef → Type 0
-IsOnTheWay insts streams futures e = WasMade e streams futures × EndStandsNowhere insts e
+IsOnTheWay insts streams futures e = IsLive e streams futures × EndStandsNowhere insts e
 
 pub record ReadersStand (insts : List Inst) (streams futures : List Channel) : Type 0 where
   pub once : (i index j other : ℕ) (e : EndRef) → e.side ≡ Reader → EndStandsAt insts i index e → EndStandsAt insts j other e → (i ≡ j) × (index ≡ other)
-  pub made : (i index : ℕ) (e : EndRef) → e.side ≡ Reader → EndStandsAt insts i index e → WasMade e streams futures
+  pub live : (i index : ℕ) (e : EndRef) → e.side ≡ Reader → EndStandsAt insts i index e → IsLive e streams futures
 
 -- what is left of a plan, by what comes next
 abbrev pub PassesBehind : Behind → List Inst → List Channel → List Channel → Type 0
@@ -110,7 +108,7 @@ ScriptPassesNoEnd s = AllByRecursion ItemPassesNoEnd s.items
 abbrev pub ReadersPass : World → Type 0
 ReadersPass w = HostPassesNoEnd w.tasks → ReadersStand w.insts w.streams w.futures
 
--- An end that is added is writable, or of what was made, and stands nowhere.
+-- An end that is added is writable, or was not dropped, and stands nowhere.
 abbrev pub IsFreshReader : World → Entry → Type 0
 IsFreshReader w (OfEnd e) = (e.side ≡ Writer) ⊎ IsOnTheWay w.insts w.streams w.futures e
 IsFreshReader w entry = Unit {0}

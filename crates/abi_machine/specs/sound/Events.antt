@@ -12,7 +12,7 @@ use Rattle.entry_gate.specs.declared.callback.Next.TheVariants as next
 use Rattle.tasks.specs.Tasks.{is_asked}
 use Rattle.comp_graph.specs.Graph.{Graph, Lifted}
 use Rattle.script_reader.specs.Script.{Script}
-use Rattle.trace_show.specs.declared.label.Label.{Label}
+use Rattle.trace_labels.specs.declared.label.Label.{Label}
 use Rattle.abi_machine.specs.Control.{Receiver, InWait, InCallback, Control, Free, Goes, Resumes, Delivers}
 use Rattle.abi_machine.specs.World.{Wait, ForSet, ForCall, ForCopy, TaskState, InLoop, InBuiltin, Task, World, first_world}
 use Rattle.abi_machine.specs.Edits.{with_control}

@@ -7,7 +7,7 @@ use Rattle.stream_ends.specs.declared.open_copy.OpenCopy.{OpenCopy}
 use Rattle.stream_ends.specs.Ends.{end_at}
 use Rattle.comp_graph.specs.Graph.{Graph, Lifted}
 use Rattle.script_reader.specs.Script.{Script, AreOfTypes}
-use Rattle.trace_show.specs.declared.label.Label.{Label}
+use Rattle.trace_labels.specs.declared.label.Label.{Label}
 use Rattle.abi_machine.specs.Control.{EndRef}
 use Rattle.abi_machine.specs.World.{Callee, Func, Caller, Nobody, Host, Guest, Task, Channel, World, first_world}
 use Rattle.abi_machine.specs.Turn.{Steps}

@@ -20,7 +20,7 @@ use Rattle.comp_graph.specs.Graph.{CoreMake, Graph, Lifted, func_named}
 use Rattle.script_reader.specs.declared.script.Item.{Item}
 use Rattle.script_reader.specs.declared.script.Item.TheVariants as item
 use Rattle.script_reader.specs.Script.{Script}
-use Rattle.trace_show.specs.declared.label.Label.{Label}
+use Rattle.trace_labels.specs.declared.label.Label.{Label}
 use Rattle.abi_machine.specs.LoweringOver.{Plan}
 use Rattle.abi_machine.specs.Control.{Lowering, HostedState, Going, AtCall, Behind, InLowering, BeforeLeaving, Control, Free, Chosen, Instantiates, Runs, Calls, Lowers, Quiet, Resumes, Delivers}
 use Rattle.abi_machine.specs.World.{Task, World, first_world}

@@ -5,7 +5,7 @@ use Rattle.std.specs.List.{slice_get}
 use Rattle.entry_gate.specs.declared.kind.Kind.TheVariants.{Callback}
 use Rattle.comp_graph.specs.Graph.{Graph}
 use Rattle.script_reader.specs.Script.{Script}
-use Rattle.trace_show.specs.declared.label.Label.{Label}
+use Rattle.trace_labels.specs.declared.label.Label.{Label}
 use Rattle.abi_machine.specs.World.{Callee, TaskState, AfterCancel, InLoop, Task, World, first_world}
 use Rattle.abi_machine.specs.Reading.{func_of, kind_of_func}
 use Rattle.abi_machine.specs.Turn.{Steps}

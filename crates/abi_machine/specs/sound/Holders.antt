@@ -5,7 +5,7 @@ use Rattle.std.specs.List.{slice_get}
 use Rattle.entry_gate.specs.Stays.{holds}
 use Rattle.comp_graph.specs.Graph.{Graph}
 use Rattle.script_reader.specs.Script.{Script}
-use Rattle.trace_show.specs.declared.label.Label.{Label}
+use Rattle.trace_labels.specs.declared.label.Label.{Label}
 use Rattle.abi_machine.specs.World.{Task, World, first_world}
 use Rattle.abi_machine.specs.Reading.{runs_in}
 use Rattle.abi_machine.specs.Gate.{stay_of}

@@ -6,7 +6,7 @@ use Rattle.std.specs.List.{slice_get}
 use Rattle.comp_graph.specs.declared.graph.CanonFunc.{CanonFunc}
 use Rattle.comp_graph.specs.Graph.{Graph}
 use Rattle.script_reader.specs.Script.{Script}
-use Rattle.trace_show.specs.declared.label.Label.{Label}
+use Rattle.trace_labels.specs.declared.label.Label.{Label}
 use Rattle.abi_machine.specs.World.{Entry, Subtask, World}
 use Rattle.abi_machine.specs.Canons.{inst_of_canon, canon_at}
 use Rattle.abi_machine.specs.Reading.{entry_at}

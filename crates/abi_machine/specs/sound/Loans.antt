@@ -8,7 +8,7 @@ use Rattle.tasks.specs.Subtasks.{is_over}
 use Rattle.comp_graph.specs.declared.graph.CanonFunc.{CanonFunc}
 use Rattle.comp_graph.specs.Graph.{Graph}
 use Rattle.script_reader.specs.Script.{Script}
-use Rattle.trace_show.specs.declared.label.Label.{Label}
+use Rattle.trace_labels.specs.declared.label.Label.{Label}
 use Rattle.abi_machine.specs.World.{Entry, Inst, Subtask, Caller, Nobody, Host, Guest, Task, World, first_world}
 use Rattle.abi_machine.specs.Canons.{inst_of_canon, canon_at}
 use Rattle.abi_machine.specs.Reading.{table_in}

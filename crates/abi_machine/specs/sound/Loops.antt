@@ -9,7 +9,7 @@ use Rattle.entry_gate.specs.declared.callback.Next.{Next}
 use Rattle.entry_gate.specs.declared.callback.Next.TheVariants as next
 use Rattle.comp_graph.specs.Graph.{Graph, Lifted}
 use Rattle.script_reader.specs.Script.{Script}
-use Rattle.trace_show.specs.declared.label.Label.{Label}
+use Rattle.trace_labels.specs.declared.label.Label.{Label}
 use Rattle.abi_machine.specs.World.{Entry, OfSet, Inst, Callee, TaskState, InLoop, Task, World, first_world}
 use Rattle.abi_machine.specs.Reading.{table_in, func_of}
 use Rattle.abi_machine.specs.Turn.{Steps}

@@ -5,7 +5,7 @@ use Rattle.std.specs.List.{slice_get, AllByRecursion}
 use Rattle.handle_table.specs.History.{live}
 use Rattle.comp_graph.specs.Graph.{Graph}
 use Rattle.script_reader.specs.Script.{Script}
-use Rattle.trace_show.specs.declared.label.Label.{Label}
+use Rattle.trace_labels.specs.declared.label.Label.{Label}
 use Rattle.abi_machine.specs.World.{Entry, OwnHandle, BorrowHandle, OfSubtask, OfSet, OfEnd, Inst, Init, Caller, Nobody, Host, Guest, Task, World, first_world}
 use Rattle.abi_machine.specs.Reading.{func_of}
 use Rattle.abi_machine.specs.Turn.{Steps}

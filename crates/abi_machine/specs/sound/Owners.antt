@@ -20,7 +20,7 @@ use Rattle.comp_graph.specs.declared.graph.CanonFunc.{CanonFunc}
 use Rattle.comp_graph.specs.declared.graph.CanonFunc.TheVariants as canon_func
 use Rattle.comp_graph.specs.Graph.{CoreMake, Graph, Lifted, canon_type}
 use Rattle.script_reader.specs.Script.{Script}
-use Rattle.trace_show.specs.declared.label.Label.{Label}
+use Rattle.trace_labels.specs.declared.label.Label.{Label}
 use Rattle.abi_machine.specs.Control.{Control, Instantiates, Calls, Lowers, Quiet, Lowering, HostedState, Going, AtCall, Behind, InLowering, BeforeLeaving}
 use Rattle.abi_machine.specs.World.{TaskState, AfterCall, AfterCancel, Begins, InBuiltin, Task, World, first_world}
 use Rattle.abi_machine.specs.Canons.{inst_of_canon, options_of_canon}

@@ -6,7 +6,7 @@ use Rattle.ca_types.specs.declared.value.Value.TheOpen.{Value-F}
 use Rattle.ca_types.specs.Ends.{some_true, part_true}
 use Rattle.comp_graph.specs.Graph.{Graph}
 use Rattle.script_reader.specs.Script.{Script}
-use Rattle.trace_show.specs.declared.label.Label.{Label}
+use Rattle.trace_labels.specs.declared.label.Label.{Label}
 use Rattle.abi_machine.specs.LoweringOver.{Plan, Gives, Fails, Asks, Size, Put, Adds}
 use Rattle.abi_machine.specs.Control.{Behind, InLowering, BeforeLeaving, Control, Free, Runs, Lowers, Quiet}
 use Rattle.abi_machine.specs.World.{World, first_world}

@@ -5,7 +5,7 @@ use Rattle.std.specs.List.{AllByRecursion}
 use Rattle.wasm_numbers.specs.Types.{AreWords}
 use Rattle.handle_table.specs.History.{Event, Add, Remove}
 use Rattle.comp_graph.specs.Needs.{realloc_type}
-use Rattle.canonical_machine.specs.Values.{AreBytes}
+use Rattle.lowering_laws.specs.Values.{AreBytes}
 use Rattle.abi_machine.specs.LoweringOver.{New, NewOwn, NewBorrow, NewEnd, Plan, Gives, Fails, Asks, Size, Put, Adds}
 use Rattle.abi_machine.specs.World.{Entry, Inst}
 use Rattle.abi_machine.specs.Pausing.{Paused, Words, Failed, Asked, Settled, ask_words}

@@ -23,6 +23,7 @@ use Rattle.script_reader.specs.declared.script.Item.{Item}
 use Rattle.script_reader.specs.Script.{Script}
 use Rattle.builtin_kinds.specs.declared.EndKind.{EndKind}
 use Rattle.builtin_kinds.specs.declared.EndKind.TheVariants.{Stream, Future}
+use Rattle.stream_ends.specs.declared.side.Side.TheVariants.{Writer}
 use Rattle.abi_machine.specs.Control.{EndRef}
 use Rattle.abi_machine.specs.World.{Entry, OwnHandle, BorrowHandle, OfSubtask, OfSet, OfEnd, Callee, Init, Subtask, Caller, Nobody, Host, Guest, TaskState, New, WaitsToEnter, InLoop, Task, Channel, World}
 use Rattle.abi_machine.specs.Canons.{inst_of_canon, canon_at}
@@ -37,7 +38,7 @@ use Rattle.abi_machine.specs.sound.Chain.{IsThere}
 use Rattle.abi_machine.specs.sound.Firsts.{TaskIs, IsActing, IsLetIn}
 use Rattle.abi_machine.specs.sound.Agreeing.{IsDueAt, channel_in}
 use Rattle.abi_machine.specs.sound.CallsFit.{IsNextCall, IsCalledBy, CopiesAt}
-use Rattle.abi_machine.specs.sound.EndPlaces.{IsFreshEnd}
+use Rattle.abi_machine.specs.sound.EndPlaces.{EndStandsNowhere, IsFreshEnd}
 use Rattle.abi_machine.specs.sound.EndsPassed.{HostPassesNoEnd, IsFreshReader, AreOfScript}
 use Rattle.abi_machine.specs.sound.Entering.{HasEntered}
 use Rattle.abi_machine.specs.sound.Entered.{NamesEntered}
@@ -184,6 +185,10 @@ pub record IsCall (g : Graph) (w : World) (e : EndRef) (call : OpenCopy) : Type 
   pub not_done : (end_of w e).done ≡ false
   pub copies : CopiesAt g w.streams w.futures e canon
 
+-- An end that is dropped stands in no table, a readable one where the script passes no end.
+abbrev pub IsGone : World → EndRef → Type 0
+IsGone w e = (e.side ≡ Writer → EndStandsNowhere w.insts e) × (HostPassesNoEnd w.tasks → EndStandsNowhere w.insts e)
+
 -- An item that is taken is there, and where it calls a function this call, which is the next one, made its task.
 abbrev pub IsTakeable : Script → World → Type 0
 IsTakeable s w = IsSome (slice_get s.items w.taken) × ((i : Item) → slice_get s.items w.taken ≡ Some i → is_call i ≡ true → MadeTask w.tasks (calls_taken s w + 1))
@@ -217,5 +222,5 @@ Comes g s (IsLent t handle) w = MayBeLent g w t handle
 Comes g s (MakesChannel kind element) w = held_borrow element ≡ true → GraphPassesBorrow g
 Comes g s (Offers e call) w = IsCall g w e call
 Comes g s (Transfers e size values) w = IsDueAt e (length values) w.streams w.futures
-Comes g s (DropsEnd e) w = (end_of w e).copy ≡ None
+Comes g s (DropsEnd e) w = ((end_of w e).copy ≡ None) × IsGone w e
 Comes g s change w = Unit {0}

@@ -6,7 +6,7 @@ use Rattle.tasks.specs.declared.subtask_state.SubtaskState.{SubtaskState}
 use Rattle.tasks.specs.Subtasks.{code_of, is_over}
 use Rattle.comp_graph.specs.Graph.{Graph}
 use Rattle.script_reader.specs.Script.{Script}
-use Rattle.trace_show.specs.declared.label.Label.{Label}
+use Rattle.trace_labels.specs.declared.label.Label.{Label}
 use Rattle.abi_machine.specs.World.{Subtask, World}
 use Rattle.abi_machine.specs.Turn.{Steps}
 use Rattle.abi_machine.specs.Next.{next}

@@ -5,7 +5,7 @@ use Rattle.std.specs.Prelude.{◌≡◌, ℕ, List, Some, IsSome}
 use Rattle.std.specs.List.{slice_get}
 use Rattle.comp_graph.specs.Graph.{Graph}
 use Rattle.script_reader.specs.Script.{Script}
-use Rattle.trace_show.specs.declared.label.Label.{Label}
+use Rattle.trace_labels.specs.declared.label.Label.{Label}
 use Rattle.abi_machine.specs.World.{Subtask, Caller, Nobody, Host, Guest, Task, World}
 use Rattle.abi_machine.specs.Turn.{Steps}
 use Rattle.abi_machine.specs.Next.{next}

@@ -7,7 +7,7 @@ use Rattle.handle_table.specs.History.{live}
 use Rattle.tasks.specs.declared.subtask_state.SubtaskState.TheVariants.{Starting}
 use Rattle.comp_graph.specs.Graph.{Graph}
 use Rattle.script_reader.specs.Script.{Script}
-use Rattle.trace_show.specs.declared.label.Label.{Label}
+use Rattle.trace_labels.specs.declared.label.Label.{Label}
 use Rattle.abi_machine.specs.World.{OfSubtask, Inst, Subtask, ForCall, TaskState, AfterCancel, InBuiltin, Task, World, first_world}
 use Rattle.abi_machine.specs.Canons.{options_at}
 use Rattle.abi_machine.specs.Reading.{table_in, subtask_of}

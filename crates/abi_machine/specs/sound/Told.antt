@@ -11,7 +11,7 @@ use Rattle.tasks.specs.declared.subtask_state.SubtaskState.{SubtaskState}
 use Rattle.tasks.specs.Subtasks.{code_of, is_over}
 use Rattle.comp_graph.specs.Graph.{Graph}
 use Rattle.script_reader.specs.Script.{Script}
-use Rattle.trace_show.specs.declared.label.Label.{Label}
+use Rattle.trace_labels.specs.declared.label.Label.{Label}
 use Rattle.abi_machine.specs.World.{Subtask, Caller, Guest, Task, World, first_world}
 use Rattle.abi_machine.specs.Counting.{subtask_state}
 use Rattle.abi_machine.specs.Turn.{Steps}

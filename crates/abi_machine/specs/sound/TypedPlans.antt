@@ -13,9 +13,9 @@ use Rattle.handle_table.specs.History.{Event, IsHistory}
 use Rattle.comp_graph.specs.declared.graph.Options.{Options}
 use Rattle.comp_graph.specs.Needs.{core_val, lift_type}
 use Rattle.script_reader.specs.Script.{AreOfTypes}
-use Rattle.trace_show.specs.declared.typed.TypedValue.{TypedValue}
-use Rattle.canonical_machine.specs.Kept.{HasBytesAlone}
-use Rattle.canonical_machine.specs.Values.{AreBytes, AllInRange}
+use Rattle.trace_labels.specs.declared.typed.TypedValue.{TypedValue}
+use Rattle.lowering_laws.specs.StoreBytes.{HasBytesAlone}
+use Rattle.lowering_laws.specs.Values.{AreBytes, AllInRange}
 use Rattle.abi_machine.specs.LoweringOver.{Plan}
 use Rattle.abi_machine.specs.World.{Entry, World}
 use Rattle.abi_machine.specs.Lifting.{Came}

@@ -15,7 +15,7 @@ use Rattle.comp_graph.specs.declared.graph.CanonFunc.{CanonFunc}
 use Rattle.comp_graph.specs.Needs.{lift_type, realloc_type}
 use Rattle.comp_graph.specs.Graph.{Graph, canon_type}
 use Rattle.script_reader.specs.Script.{Script}
-use Rattle.trace_show.specs.declared.label.Label.{Label}
+use Rattle.trace_labels.specs.declared.label.Label.{Label}
 use Rattle.abi_machine.specs.Control.{HostedState, Going, AtCall, Nested, Behind, InLowering, BeforeLeaving, Control, Instantiates, Runs, Calls, Quiet}
 use Rattle.abi_machine.specs.World.{Callee, Init, Func, Destroys, TaskState, AfterCall, AfterCancel, Begins, InBuiltin, Task, World, first_world}
 use Rattle.abi_machine.specs.Canons.{canon_at}

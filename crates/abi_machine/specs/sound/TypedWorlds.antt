@@ -13,7 +13,7 @@ use Rattle.tasks.specs.declared.phase.Cancellation.TheVariants.{NotAsked}
 use Rattle.comp_graph.specs.declared.graph.CanonFunc.{CanonFunc}
 use Rattle.comp_graph.specs.Needs.{lift_type, post_return_type, realloc_type}
 use Rattle.comp_graph.specs.Graph.{Graph, Lifted, canon_type}
-use Rattle.canonical_machine.specs.Kept.{HasBytesAlone}
+use Rattle.lowering_laws.specs.StoreBytes.{HasBytesAlone}
 use Rattle.abi_machine.specs.LoweringOver.{Plan}
 use Rattle.abi_machine.specs.Control.{After, Replies, Finishes, Then, Starts, Resolves, Transfers, Lowering, Behind, InLowering, BeforeLeaving, Receiver, InWait, InCallback, Control, Runs, Calls, Lowers, Quiet, Delivers}
 use Rattle.abi_machine.specs.World.{Inst, Callee, Init, Func, Destroys, Subtask, Caller, Nobody, Host, Guest, Wait, ForYield, ForSet, ForCall, ForCopy, ForCancel, TaskState, AfterCancel, InBuiltin, Task, World}

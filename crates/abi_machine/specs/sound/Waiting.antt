@@ -9,7 +9,7 @@ use Rattle.entry_gate.specs.declared.callback.Next.{Next}
 use Rattle.entry_gate.specs.declared.callback.Next.TheVariants as word
 use Rattle.comp_graph.specs.Graph.{Graph, Lifted}
 use Rattle.script_reader.specs.Script.{Script}
-use Rattle.trace_show.specs.declared.label.Label.{Label}
+use Rattle.trace_labels.specs.declared.label.Label.{Label}
 use Rattle.abi_machine.specs.declared.run_end.RunEnd.TheVariants.{Deadlock}
 use Rattle.abi_machine.specs.World.{Wait, ForYield, ForSet, ForCall, ForCopy, ForCancel, TaskState, InLoop, InBuiltin, Task, World, first_world}
 use Rattle.abi_machine.specs.Reading.{task_at, func_of}

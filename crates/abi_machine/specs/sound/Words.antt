@@ -13,7 +13,7 @@ use Rattle.comp_graph.specs.Graph.{Graph, canon_type}
 use Rattle.script_reader.specs.declared.script.Item.{Item}
 use Rattle.script_reader.specs.declared.script.Item.TheVariants as item
 use Rattle.script_reader.specs.Script.{Script}
-use Rattle.trace_show.specs.declared.label.Label.{Label}
+use Rattle.trace_labels.specs.declared.label.Label.{Label}
 use Rattle.abi_machine.specs.LoweringOver.{New, NewOwn, NewBorrow, NewEnd, Plan, Gives, Fails, Asks, Size, Put, Adds}
 use Rattle.abi_machine.specs.Control.{HostedState, Going, AtCall, Behind, InLowering, BeforeLeaving, Control, Calls, Lowers, Quiet}
 use Rattle.abi_machine.specs.World.{Entry, Inst, Caller, Nobody, Host, Guest, TaskState, AfterCall, AfterCancel, InBuiltin, Task, World, first_world}

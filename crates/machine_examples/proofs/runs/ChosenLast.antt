@@ -6,9 +6,9 @@ use Rattle.wasm_module.specs.Expr.{End, Plain}
 use Rattle.wasm_store.specs.Stack.{Running}
 use Rattle.comp_graph.specs.Graph.{Graph}
 use Rattle.script_reader.specs.Script.{Script}
-use Rattle.trace_show.specs.declared.builtin.Builtin.TheVariants as builtin
-use Rattle.trace_show.specs.declared.label.BlockReason.TheVariants as reason
-use Rattle.trace_show.specs.declared.label.Label.TheVariants as line
+use Rattle.trace_labels.specs.declared.builtin.Builtin.TheVariants as builtin
+use Rattle.trace_labels.specs.declared.label.BlockReason.TheVariants as reason
+use Rattle.trace_labels.specs.declared.label.Label.TheVariants as line
 use Rattle.abi_machine.specs.declared.run_end.RunEnd.TheVariants.{Fuel}
 use Rattle.abi_machine.specs.LoweringOver.{Plan, Gives}
 use Rattle.abi_machine.specs.Control.{Chosen, Lowers, Starts}

@@ -8,9 +8,9 @@ use Rattle.handle_table.specs.History.{Add, Remove}
 use Rattle.tasks.specs.declared.subtask_state.SubtaskState.TheVariants as told
 use Rattle.comp_graph.specs.Graph.{Graph, no_options}
 use Rattle.script_reader.specs.Script.{Script}
-use Rattle.trace_show.specs.declared.builtin.Builtin.TheVariants as builtin
-use Rattle.trace_show.specs.declared.label.Label.TheVariants as line
-use Rattle.trace_show.specs.declared.trap.TrapName.TheVariants as trap
+use Rattle.trace_labels.specs.declared.builtin.Builtin.TheVariants as builtin
+use Rattle.trace_labels.specs.declared.label.Label.TheVariants as line
+use Rattle.trace_labels.specs.declared.trap.TrapName.TheVariants as trap
 use Rattle.abi_machine.specs.declared.run_end.RunEnd.TheVariants.{Trapped}
 use Rattle.abi_machine.specs.Control.{Free, Arrives, Doomed}
 use Rattle.abi_machine.specs.World.{OwnHandle, Init, Func, Nobody, Host, Guest, New, Acting, AfterCall, Exited, World, new_inst, new_task}

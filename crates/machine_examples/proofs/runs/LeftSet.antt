@@ -9,8 +9,8 @@ use Rattle.builtin_kinds.specs.declared.EndKind.TheVariants.{Stream}
 use Rattle.stream_ends.specs.declared.side.Side.TheVariants.{Reader, Writer}
 use Rattle.comp_graph.specs.Graph.{Graph, no_options}
 use Rattle.script_reader.specs.Script.{Script}
-use Rattle.trace_show.specs.declared.builtin.Builtin.TheVariants as builtin
-use Rattle.trace_show.specs.declared.label.Label.TheVariants as line
+use Rattle.trace_labels.specs.declared.builtin.Builtin.TheVariants as builtin
+use Rattle.trace_labels.specs.declared.label.Label.TheVariants as line
 use Rattle.abi_machine.specs.declared.run_end.RunEnd.TheVariants.{Done}
 use Rattle.abi_machine.specs.Control.{Free}
 use Rattle.abi_machine.specs.World.{OfSet, OfEnd, Init, Func, Nobody, Host, Acting, Exited, World, new_task}

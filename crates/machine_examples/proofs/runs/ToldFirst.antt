@@ -14,9 +14,9 @@ use Rattle.stream_ends.specs.declared.open_copy.CopyEvent.TheVariants as copy_ev
 use Rattle.stream_ends.specs.declared.open_copy.CopyResult.TheVariants as copy_result
 use Rattle.comp_graph.specs.Graph.{Graph}
 use Rattle.script_reader.specs.Script.{Script}
-use Rattle.trace_show.specs.declared.builtin.Builtin.TheVariants as builtin
-use Rattle.trace_show.specs.declared.label.BlockReason.TheVariants as reason
-use Rattle.trace_show.specs.declared.label.Label.TheVariants as line
+use Rattle.trace_labels.specs.declared.builtin.Builtin.TheVariants as builtin
+use Rattle.trace_labels.specs.declared.label.BlockReason.TheVariants as reason
+use Rattle.trace_labels.specs.declared.label.Label.TheVariants as line
 use Rattle.abi_machine.specs.declared.run_end.RunEnd.TheVariants.{Done}
 use Rattle.abi_machine.specs.LoweringOver.{Plan, Gives}
 use Rattle.abi_machine.specs.Control.{Runs, Lowers, Starts}

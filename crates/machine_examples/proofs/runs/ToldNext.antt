@@ -6,9 +6,9 @@ use Rattle.tasks.specs.declared.phase.Resolution.TheVariants.{Returned}
 use Rattle.tasks.specs.declared.phase.Cancellation.TheVariants as cancellation
 use Rattle.comp_graph.specs.Graph.{Graph, no_options}
 use Rattle.script_reader.specs.Script.{Script}
-use Rattle.trace_show.specs.declared.builtin.Builtin.TheVariants as builtin
-use Rattle.trace_show.specs.declared.label.BlockReason.TheVariants as reason
-use Rattle.trace_show.specs.declared.label.Label.TheVariants as line
+use Rattle.trace_labels.specs.declared.builtin.Builtin.TheVariants as builtin
+use Rattle.trace_labels.specs.declared.label.BlockReason.TheVariants as reason
+use Rattle.trace_labels.specs.declared.label.Label.TheVariants as line
 use Rattle.abi_machine.specs.declared.run_end.RunEnd.TheVariants.{Done}
 use Rattle.abi_machine.specs.LoweringOver.{Plan, Gives}
 use Rattle.abi_machine.specs.Control.{Runs, Lowers, Starts}

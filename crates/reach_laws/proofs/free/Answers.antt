@@ -33,10 +33,10 @@ use Rattle.comp_graph.specs.declared.graph.EndOp.TheVariants as end_op
 use Rattle.comp_graph.specs.Needs.{flat_param_limit}
 use Rattle.comp_graph.specs.Graph.{Graph, Lifted}
 use Rattle.script_reader.specs.Script.{Script}
-use Rattle.trace_show.specs.declared.label.BlockReason.TheVariants as reason
-use Rattle.trace_show.specs.declared.label.Label.TheVariants as line
-use Rattle.trace_show.specs.declared.trap.TrapName.{TrapName}
-use Rattle.trace_show.specs.declared.trap.TrapName.TheVariants as trap
+use Rattle.trace_labels.specs.declared.label.BlockReason.TheVariants as reason
+use Rattle.trace_labels.specs.declared.label.Label.TheVariants as line
+use Rattle.trace_labels.specs.declared.trap.TrapName.{TrapName}
+use Rattle.trace_labels.specs.declared.trap.TrapName.TheVariants as trap
 use Rattle.abi_machine.specs.Traps.{task_name, renamed, set_name}
 use Rattle.abi_machine.specs.LoweringOver.{Gives}
 use Rattle.abi_machine.specs.Control.{EndRef, Copying, Replies, Transfers, InWait, Back}

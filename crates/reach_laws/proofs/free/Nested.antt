@@ -7,7 +7,7 @@ use Rattle.wasm_store.specs.Stack.{Stack, Running, AtHost, Given}
 use Rattle.wasm_store.specs.Step.{Move, Goes, Traps, resume}
 use Rattle.wasm_store.specs.Step as core
 use Rattle.value_lower.specs.Following.{written}
-use Rattle.canonical_machine.proofs.Holding.{IsHeld, MoveHolds, next_holds, resume_holds, by_free_moves}
+use Rattle.lowering_laws.proofs.Holding.{IsHeld, MoveHolds, next_holds, resume_holds, by_free_moves}
 use Rattle.builtin_kinds.specs.declared.ContextOp.TheVariants as context_op
 use Rattle.builtin_kinds.specs.declared.ResourceOp.TheVariants as resource_op
 use Rattle.comp_graph.specs.declared.graph.BuiltinKind.{BuiltinKind}
@@ -16,9 +16,9 @@ use Rattle.comp_graph.specs.declared.graph.CanonFunc.{CanonFunc}
 use Rattle.comp_graph.specs.declared.graph.CanonFunc.TheVariants as canon
 use Rattle.comp_graph.specs.Graph.{Graph}
 use Rattle.script_reader.specs.Script.{Script}
-use Rattle.trace_show.specs.declared.label.Label.TheVariants as line
-use Rattle.trace_show.specs.declared.trap.TrapName.{TrapName}
-use Rattle.trace_show.specs.declared.trap.TrapName.TheVariants as trap
+use Rattle.trace_labels.specs.declared.label.Label.TheVariants as line
+use Rattle.trace_labels.specs.declared.trap.TrapName.{TrapName}
+use Rattle.trace_labels.specs.declared.trap.TrapName.TheVariants as trap
 use Rattle.abi_machine.specs.Traps.{core_name, lower_name}
 use Rattle.abi_machine.specs.LoweringOver.{Plan, Gives, Fails, Asks, Size, Put, Adds}
 use Rattle.abi_machine.specs.Control.{Control, Free, Lowers, Quiet, Lowering, HostedState, Going, AtCall, Nested, Behind, InLowering}

@@ -10,7 +10,7 @@ use Rattle.wasm_store.specs.Stack.{Stack, Running, AtHost, Given}
 use Rattle.wasm_store.specs.Step.{Move, Goes, Traps, resume}
 use Rattle.wasm_store.specs.Step as core
 use Rattle.wasm_store.proofs.Lists.{all_at}
-use Rattle.canonical_machine.proofs.Holding.{IsHeld, MoveHolds, next_holds, by_free_moves}
+use Rattle.lowering_laws.proofs.Holding.{IsHeld, MoveHolds, next_holds, by_free_moves}
 use Rattle.ca_types.specs.declared.types.ValType.{ValType}
 use Rattle.entry_gate.specs.Callbacks.{callback_of}
 use Rattle.entry_gate.specs.declared.callback.BadCode.{BadCode}
@@ -25,12 +25,12 @@ use Rattle.comp_graph.specs.declared.graph.Options.{Options}
 use Rattle.comp_graph.specs.Needs.{flat_result_limit}
 use Rattle.comp_graph.specs.Graph.{Graph, Lifted}
 use Rattle.script_reader.specs.Script.{Script}
-use Rattle.trace_show.specs.declared.label.BlockReason.{BlockReason}
-use Rattle.trace_show.specs.declared.label.BlockReason.TheVariants as reason
-use Rattle.trace_show.specs.declared.label.Label.{Label}
-use Rattle.trace_show.specs.declared.label.Label.TheVariants as line
-use Rattle.trace_show.specs.declared.trap.TrapName.TheVariants as trap
-use Rattle.trace_show.specs.declared.typed.TypedValue.{TypedValue}
+use Rattle.trace_labels.specs.declared.label.BlockReason.{BlockReason}
+use Rattle.trace_labels.specs.declared.label.BlockReason.TheVariants as reason
+use Rattle.trace_labels.specs.declared.label.Label.{Label}
+use Rattle.trace_labels.specs.declared.label.Label.TheVariants as line
+use Rattle.trace_labels.specs.declared.trap.TrapName.TheVariants as trap
+use Rattle.trace_labels.specs.declared.typed.TypedValue.{TypedValue}
 use Rattle.abi_machine.specs.Traps.{task_name, core_name}
 use Rattle.abi_machine.specs.Control.{Control, After, Replies, Finishes, Resolves, BeforeLeaving, Free, Runs, Back, Leaves}
 use Rattle.abi_machine.specs.Control as control

@@ -11,7 +11,7 @@ use Rattle.comp_graph.specs.Graph.{Graph, func_named}
 use Rattle.script_reader.specs.Script.{Script}
 use Rattle.script_reader.specs.declared.script.Item.{Item}
 use Rattle.script_reader.specs.declared.script.Item.TheVariants as item
-use Rattle.trace_show.specs.declared.label.Label.TheVariants as line
+use Rattle.trace_labels.specs.declared.label.Label.TheVariants as line
 use Rattle.abi_machine.specs.Control.{Free, Chosen, Instantiates, Goes, Resumes}
 use Rattle.abi_machine.specs.World.{Func, Host, Exited, World}
 use Rattle.abi_machine.specs.Edits.{with_control, unit_spent, picked, item_taken, chained, in_state, resolved, with_cancellation}

@@ -6,11 +6,11 @@ use Rattle.wasm_store.specs.Typed.{StoreTyped, Extends}
 use Rattle.wasm_store.proofs.Stores.{further}
 use Rattle.value_lower.specs.Following.{written}
 use Rattle.comp_graph.specs.Graph.{Graph}
-use Rattle.canonical_machine.specs.Kept.{HasBytesAlone}
-use Rattle.canonical_machine.specs.Values.{AreBytes}
-use Rattle.canonical_machine.proofs.Bytes.{between}
-use Rattle.canonical_machine.proofs.Memories.{length_written}
-use Rattle.canonical_machine.proofs.Staying.{GoesOn}
+use Rattle.lowering_laws.specs.StoreBytes.{HasBytesAlone}
+use Rattle.lowering_laws.specs.Values.{AreBytes}
+use Rattle.lowering_laws.proofs.Bytes.{between}
+use Rattle.lowering_laws.proofs.Memories.{length_written}
+use Rattle.lowering_laws.proofs.Stores.{GoesOn}
 use Rattle.abi_machine.specs.Control.{Receiver, InWait, InCallback}
 use Rattle.abi_machine.specs.World.{World}
 use Rattle.abi_machine.specs.Edits.{control_behind}

@@ -6,7 +6,7 @@ use Rattle.std.specs.Prelude.{Bool, List, Option, ℕ}
 use Rattle.stream_ends.specs.Ends.{is_idle}
 use Rattle.stream_ends.specs.declared.side.Side.{Side}
 use Rattle.tasks.specs.declared.event.TaskEvent.{TaskEvent}
-use Rattle.trace_show.specs.declared.label.Label.{Label}
+use Rattle.trace_labels.specs.declared.label.Label.{Label}
 use Rattle.world_parts.specs.Channels.{copied, idle_seen}
 use Rattle.world_parts.specs.Entries.{end_idled, entry_found, set_left}
 use Rattle.world_parts.specs.Feed.{got, told}
@@ -19,7 +19,7 @@ use Rattle.run_laws.proofs.stays.Feed.{told_stays}
 use Rattle.run_laws.proofs.stays.Going.{enters_stays}
 use Rattle.run_laws.proofs.stays.Slots.{callee_of_stays, context_set_stays, happens_stays, instance_of_stays, words_of_stays, result_kept_stays}
 use Rattle.run_laws.proofs.stays.Plain.{returned_stays}
-use Rattle.trace_show.specs.declared.typed.TypedValue.{TypedValue}
+use Rattle.trace_labels.specs.declared.typed.TypedValue.{TypedValue}
 use Rattle.world_parts.specs.Plain.{returned}
 use Rattle.run_laws.proofs.chains.By.{ChainBy, chain_stays}
 

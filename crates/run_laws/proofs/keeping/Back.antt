@@ -14,8 +14,8 @@ use Rattle.task_table.specs.declared.errand.Errand.TheVariants as errand
 use Rattle.task_table.specs.declared.slot.TaskSlot.{TaskSlot}
 use Rattle.task_table.specs.Callers.{called_of}
 use Rattle.task_table.specs.Slots.{at_errand}
-use Rattle.trace_show.specs.declared.label.BlockReason.TheVariants as reason
-use Rattle.trace_show.specs.declared.trap.TrapName.TheVariants as trap
+use Rattle.trace_labels.specs.declared.label.BlockReason.TheVariants as reason
+use Rattle.trace_labels.specs.declared.trap.TrapName.TheVariants as trap
 use Rattle.world_parts.specs.Views.{Views}
 use Rattle.world_parts.specs.declared.parts.Receiver.{Receiver}
 use Rattle.world_parts.specs.Held.{Held, Gives, Traps, after, given}

@@ -16,9 +16,9 @@ use Rattle.res_handles.specs.Refusals.{handle_in, rep_of}
 use Rattle.instances.specs.Instances.{InstanceView, view_of}
 use Rattle.task_table.specs.declared.slot.TaskSlot.{TaskSlot}
 use Rattle.task_table.specs.Slots.{word_at, with_word}
-use Rattle.trace_show.specs.declared.label.Label.{Label}
-use Rattle.trace_show.specs.declared.label.Label.TheVariants as line
-use Rattle.trace_show.specs.declared.trap.TrapName.TheVariants as trap
+use Rattle.trace_labels.specs.declared.label.Label.{Label}
+use Rattle.trace_labels.specs.declared.label.Label.TheVariants as line
+use Rattle.trace_labels.specs.declared.trap.TrapName.TheVariants as trap
 use Rattle.world_parts.specs.declared.parts.Flow.{Flow}
 use Rattle.world_parts.specs.Held.{Held, Done, Gives, Traps, after, given}
 use Rattle.world_parts.specs.Entries.{named, rep_found}

@@ -22,9 +22,9 @@ use Rattle.graph_views.specs.Callees.{lift_of}
 use Rattle.copy_replies.specs.declared.moving.Moving.{Moving}
 use Rattle.copy_replies.specs.declared.moving.CopySide.{CopySide}
 use Rattle.copy_replies.specs.Moves.{element_at, next_place, side_by, side_found, read_of, write_of, moving_by, sides_found, other_offer, moving_in, moving, channel_named, completed_payload, completed}
-use Rattle.trace_show.specs.declared.label.Copied.{Copied}
-use Rattle.trace_show.specs.declared.label.Copied.TheVariants.{Units, Values}
-use Rattle.trace_show.specs.declared.label.Label.TheVariants as line
+use Rattle.trace_labels.specs.declared.label.Copied.{Copied}
+use Rattle.trace_labels.specs.declared.label.Copied.TheVariants.{Units, Values}
+use Rattle.trace_labels.specs.declared.label.Label.TheVariants as line
 use Rattle.programs.specs.declared.program.Program.{Program}
 use Rattle.programs.specs.Program.{returned_of, value_of}
 use Rattle.instances.specs.declared.entry.EndEntry.{EndEntry}

@@ -25,7 +25,7 @@ use Rattle.instances.specs.Entries.{with_idle, any_end_in}
 use Rattle.instances.specs.Instances as instance
 use Rattle.instances.specs.Instances.{InstanceView, entry_of, with_sets}
 use Rattle.waitables.specs.Sets.{left}
-use Rattle.trace_show.specs.declared.trap.TrapName.TheVariants as trap
+use Rattle.trace_labels.specs.declared.trap.TrapName.TheVariants as trap
 use Rattle.world_parts.specs.Views.{Views}
 use Rattle.world_parts.specs.declared.parts.Flow.{Flow}
 use Rattle.world_parts.specs.Held.{Held, Done, Gives, Traps, Spent, Stuck, after, given}

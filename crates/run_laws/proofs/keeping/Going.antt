@@ -29,8 +29,8 @@ use Rattle.task_table.specs.Callers.{changed, may_raise}
 use Rattle.task_table.specs.Slots as slots
 use Rattle.task_table.specs.Slots.{event_answer, advanced_slot, waits_on, waits_directly_at, raised_slot}
 use Rattle.task_table.specs.Tasks.{with_number, without}
-use Rattle.trace_show.specs.declared.label.BlockReason.TheVariants as reason
-use Rattle.trace_show.specs.declared.label.Label.TheVariants as line
+use Rattle.trace_labels.specs.declared.label.BlockReason.TheVariants as reason
+use Rattle.trace_labels.specs.declared.label.Label.TheVariants as line
 use Rattle.world_parts.specs.declared.parts.Flow.TheVariants as flow
 use Rattle.world_parts.specs.Held.{Held, Done, Gives, Stuck, after, given}
 use Rattle.world_parts.specs.Entries.{with_instance}

@@ -22,9 +22,9 @@ use Rattle.instances.specs.Instances.{InstanceView, entry_of, with_sets, with_ga
 use Rattle.task_table.specs.declared.slot.TaskSlot.{TaskSlot}
 use Rattle.task_table.specs.Slots as slots
 use Rattle.task_table.specs.Slots.{event_answer, advanced_slot, waits_on, waits_directly_at, next_waits_on}
-use Rattle.trace_show.specs.declared.label.BlockReason.{BlockReason}
-use Rattle.trace_show.specs.declared.label.BlockReason.TheVariants as reason
-use Rattle.trace_show.specs.declared.label.Label.TheVariants as line
+use Rattle.trace_labels.specs.declared.label.BlockReason.{BlockReason}
+use Rattle.trace_labels.specs.declared.label.BlockReason.TheVariants as reason
+use Rattle.trace_labels.specs.declared.label.Label.TheVariants as line
 use Rattle.world_parts.specs.Held.{Held, Gives, Stuck, after}
 use Rattle.world_parts.specs.Entries.{with_instance, named, set_waited_on}
 use Rattle.world_parts.specs.Feed.{told, left_chain}

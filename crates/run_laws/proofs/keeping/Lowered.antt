@@ -43,8 +43,8 @@ use Rattle.programs.specs.declared.program.Program.{Program}
 use Rattle.programs.specs.Program.{resources_of}
 use Rattle.task_table.specs.declared.slot.TaskSlot.{TaskSlot}
 use Rattle.task_table.specs.Slots.{with_word}
-use Rattle.trace_show.specs.declared.label.Label.{Label}
-use Rattle.trace_show.specs.declared.label.Label.TheVariants as line
+use Rattle.trace_labels.specs.declared.label.Label.{Label}
+use Rattle.trace_labels.specs.declared.label.Label.TheVariants as line
 use Rattle.world_parts.specs.Held.{Held, Done, Gives, Traps, Spent, Stuck, after, given}
 use Rattle.world_parts.specs.Entries.{with_instance}
 use Rattle.world_parts.specs.Feed.{told}

@@ -16,7 +16,7 @@ use Rattle.task_table.specs.declared.refusal.EventError.TheVariants as event_err
 use Rattle.task_table.specs.declared.slot.TaskSlot.{TaskSlot}
 use Rattle.task_table.specs.Slots as slots
 use Rattle.task_table.specs.Slots.{trapped, event_answer, advanced_slot}
-use Rattle.trace_show.specs.declared.label.Label.{Label}
+use Rattle.trace_labels.specs.declared.label.Label.{Label}
 use Rattle.world_parts.specs.Held.{Held, Done, after}
 use Rattle.world_parts.specs.Feed.{told, left_chain}
 use Rattle.world_parts.specs.Slots.{with_task, happened}

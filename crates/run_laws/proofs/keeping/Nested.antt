@@ -24,7 +24,7 @@ use Rattle.res_handles.specs.Refusals.{handle_in, rep_of}
 use Rattle.programs.specs.declared.program.Program.{Program}
 use Rattle.task_table.specs.declared.slot.TaskSlot.{TaskSlot}
 use Rattle.task_table.specs.Slots.{word_at}
-use Rattle.trace_show.specs.declared.label.Label.TheVariants as line
+use Rattle.trace_labels.specs.declared.label.Label.TheVariants as line
 use Rattle.world_parts.specs.declared.parts.Parts.{Parts}
 use Rattle.world_parts.specs.declared.parts.Rest.TheVariants as rest
 use Rattle.world_parts.specs.declared.parts.Stop.{Stop}

@@ -31,7 +31,7 @@ use Rattle.task_table.specs.declared.errand.Callee.{Callee}
 use Rattle.task_table.specs.declared.slot.TaskSlot.{TaskSlot}
 use Rattle.task_table.specs.Callers.{may_keep}
 use Rattle.task_table.specs.Slots.{with_word, kept_slot}
-use Rattle.trace_show.specs.declared.label.Label.TheVariants as line
+use Rattle.trace_labels.specs.declared.label.Label.TheVariants as line
 use Rattle.world_parts.specs.Held.{Held, Done, Gives, Traps, Spent, Stuck, after, given}
 use Rattle.world_parts.specs.Feed.{told}
 use Rattle.world_parts.specs.Slots.{with_task, instance_of as at_of, callee_of, context_set, result_kept}

@@ -24,8 +24,8 @@ use Rattle.task_table.specs.declared.errand.Callee.{Callee}
 use Rattle.task_table.specs.declared.errand.Callee.TheVariants as callee
 use Rattle.task_table.specs.declared.slot.TaskSlot.{TaskSlot}
 use Rattle.task_table.specs.Callers.{called_of}
-use Rattle.trace_show.specs.declared.trap.TrapName.TheVariants as trap
-use Rattle.trace_show.specs.declared.typed.TypedValue.{TypedValue}
+use Rattle.trace_labels.specs.declared.trap.TrapName.TheVariants as trap
+use Rattle.trace_labels.specs.declared.typed.TypedValue.{TypedValue}
 use Rattle.world_parts.specs.declared.parts.Flow.{Flow}
 use Rattle.world_parts.specs.declared.parts.Flow.TheVariants as flow
 use Rattle.world_parts.specs.declared.parts.Rest.TheVariants as rest

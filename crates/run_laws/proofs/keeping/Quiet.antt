@@ -26,9 +26,9 @@ use Rattle.task_table.specs.Callers.{changed, may_raise}
 use Rattle.task_table.specs.Slots as slots
 use Rattle.task_table.specs.Slots.{trapped, event_answer, advanced_slot, raised_slot}
 use Rattle.task_table.specs.Tasks.{with_number}
-use Rattle.trace_show.specs.declared.label.Label.{Label}
-use Rattle.trace_show.specs.declared.label.Label.TheVariants as line
-use Rattle.trace_show.specs.declared.typed.TypedValue.{TypedValue}
+use Rattle.trace_labels.specs.declared.label.Label.{Label}
+use Rattle.trace_labels.specs.declared.label.Label.TheVariants as line
+use Rattle.trace_labels.specs.declared.typed.TypedValue.{TypedValue}
 use Rattle.world_parts.specs.Held.{Held, Done, Gives, Stuck, after, given}
 use Rattle.world_parts.specs.Entries.{with_instance}
 use Rattle.world_parts.specs.Feed.{told}

@@ -86,7 +86,7 @@ passed_plain p t passing.Returned h d b = returned_plain p t (call_at h.rest) h 
 passed_plain p t (passing.Ended words) h d b = rests_plain d (ended_rests p t words h d b)
 passed_plain p t (passing.Elements copying) h d b = transferred_plain p t copying h d b
 
-by_acting : (p : Program) (x : Passing) (h : Held) (d : Done Flow) (o : Option ℕ) → Behind (let e : Done ℕ = given o (λ t. Gives t h) in e) (λ t k e. PassesFor p t x k e) d → GivesBy IsPlain d
+pub by_acting : (p : Program) (x : Passing) (h : Held) (d : Done Flow) (o : Option ℕ) → Behind (let e : Done ℕ = given o (λ t. Gives t h) in e) (λ t k e. PassesFor p t x k e) d → GivesBy IsPlain d
 by_acting p x h d None is = subst (λ (e : Done Flow). GivesBy IsPlain e) (sym is) tt
 by_acting p x h d (Some t) b = passed_plain p t x h d b
 

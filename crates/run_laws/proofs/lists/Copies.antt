@@ -7,7 +7,7 @@ use Rattle.stream_ends.specs.declared.stream_end.End.{End}
 use Rattle.stream_ends.specs.Ends.{is_copying}
 use Rattle.channels.specs.Channels.{end_in}
 use Rattle.world_parts.specs.Views.{Views}
-use Rattle.trace_show.specs.declared.trap.TrapName.TheVariants as trap
+use Rattle.trace_labels.specs.declared.trap.TrapName.TheVariants as trap
 use Rattle.world_parts.specs.Held.{Held, Traps, after, given}
 use Rattle.world_parts.specs.Feed.{got}
 use Rattle.world_parts.specs.Entries.{end_found, entry_added, entry_removed, end_idled, set_left}

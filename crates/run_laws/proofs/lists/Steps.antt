@@ -9,7 +9,7 @@ use Rattle.script_reader.specs.Script.{Script}
 use Rattle.programs.specs.declared.program.Program.{Program}
 use Rattle.programs.specs.Typed.{typed}
 use Rattle.replies.specs.Seen.{seen}
-use Rattle.trace_show.specs.declared.label.Label.{Label}
+use Rattle.trace_labels.specs.declared.label.Label.{Label}
 use Rattle.world_parts.specs.declared.parts.Flow.{Flow}
 use Rattle.world_parts.specs.declared.parts.Flow.TheVariants as flow
 use Rattle.world_parts.specs.declared.parts.Rest.{Rest}

@@ -16,7 +16,7 @@ use Rattle.comp_graph.specs.declared.graph.CanonFunc.{CanonFunc}
 use Rattle.comp_graph.specs.declared.graph.CanonFunc.TheVariants as canon
 use Rattle.graph_views.specs.Names.{builtin_of}
 use Rattle.graph_views.specs.Callees.{kind_of}
-use Rattle.trace_show.specs.declared.label.Label.TheVariants as line
+use Rattle.trace_labels.specs.declared.label.Label.TheVariants as line
 use Rattle.world_parts.specs.Held.{Held}
 use Rattle.replies.specs.Seen.{seen}
 use Rattle.replies.specs.Replies.{answered, begun, builtin_reply, context_reply, lowered, plain_reply, resource_reply}

@@ -4,8 +4,8 @@ use Rattle.tasks.specs.declared.event.BlockedAt.TheVariants as blocked_at
 use Rattle.tasks.specs.declared.event.TaskEvent.TheVariants as event
 use Rattle.tasks.specs.declared.subtask_state.SubtaskState.TheVariants as state
 use Rattle.world_parts.specs.Views.{Views}
-use Rattle.trace_show.specs.declared.label.BlockReason.TheVariants as reason
-use Rattle.trace_show.specs.declared.label.Label.TheVariants as line
+use Rattle.trace_labels.specs.declared.label.BlockReason.TheVariants as reason
+use Rattle.trace_labels.specs.declared.label.Label.TheVariants as line
 use Rattle.world_parts.specs.Held.{Held, after}
 use Rattle.world_parts.specs.Feed.{told, got}
 use Rattle.world_parts.specs.Gates.{pressure_raised, pressure_lowered, pressure_set}

@@ -1,6 +1,6 @@
 -- What is told, and who acts: no event is to come next.
 use Rattle.std.specs.Prelude.{ℕ, ◌-◌, nat_lt, List, length, take}
-use Rattle.trace_show.specs.declared.label.Label.TheVariants as line
+use Rattle.trace_labels.specs.declared.label.Label.TheVariants as line
 use Rattle.world_parts.specs.declared.parts.Rest.TheVariants as rest
 use Rattle.world_parts.specs.declared.parts.Flow.TheVariants as flow
 use Rattle.world_parts.specs.Held.{Held, Gives, Stuck}

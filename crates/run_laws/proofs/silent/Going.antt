@@ -5,8 +5,8 @@ use Rattle.tasks.specs.declared.event.BlockedAt.TheVariants as blocked_at
 use Rattle.tasks.specs.declared.event.TaskEvent.TheVariants as event
 use Rattle.instances.specs.declared.entry.WorldEntry.{WorldEntry}
 use Rattle.instances.specs.declared.entry.WorldEntry.TheVariants as entry
-use Rattle.trace_show.specs.declared.label.BlockReason.TheVariants as reason
-use Rattle.trace_show.specs.declared.label.Label.TheVariants as line
+use Rattle.trace_labels.specs.declared.label.BlockReason.TheVariants as reason
+use Rattle.trace_labels.specs.declared.label.Label.TheVariants as line
 use Rattle.world_parts.specs.declared.parts.Flow.TheVariants as flow
 use Rattle.world_parts.specs.Held.{Held, Gives, after}
 use Rattle.world_parts.specs.Feed.{told, acting, left_chain, got}

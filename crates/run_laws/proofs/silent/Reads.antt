@@ -10,8 +10,8 @@ use Rattle.stream_ends.specs.Ends.{is_copying}
 use Rattle.channels.specs.declared.channel.Channel.{Channel}
 use Rattle.channels.specs.Channels.{end_in}
 use Rattle.tasks.specs.declared.event.BlockedAt.TheVariants as blocked_at
-use Rattle.trace_show.specs.declared.label.BlockReason.TheVariants as reason
-use Rattle.trace_show.specs.declared.trap.TrapName.TheVariants as trap
+use Rattle.trace_labels.specs.declared.label.BlockReason.TheVariants as reason
+use Rattle.trace_labels.specs.declared.trap.TrapName.TheVariants as trap
 use Rattle.world_parts.specs.Views.{Views}
 use Rattle.world_parts.specs.Held.{Held, Traps, given}
 use Rattle.world_parts.specs.Feed.{got}

@@ -58,7 +58,7 @@ arrived_same h k is = subst (λ (d : Done Flow). HeardBy h d) is (arrives_hears 
 resumed_same : (h k : Held) → resumes h ≡ Gives flow.Enters k → k ≡ h
 resumed_same h k is = subst (λ (d : Done Flow). HeardBy h d) is (resumes_hears h)
 
-same_kept : (p : Program) (h k : Held) → MayArrive h.rest → woken p.graph.now p.ends.now h.rest h ≡ Gives flow.Enters k → k ≡ h
+pub same_kept : (p : Program) (h k : Held) → MayArrive h.rest → woken p.graph.now p.ends.now h.rest h ≡ Gives flow.Enters k → k ≡ h
 same_kept p h k (inl arrives_is) is = arrived_same h k (ap (λ (r : Rest). woken p.graph.now p.ends.now r h) (sym arrives_is) ∙ is)
 same_kept p h k (inr resumes_is) is = resumed_same h k (ap (λ (r : Rest). woken p.graph.now p.ends.now r h) (sym resumes_is) ∙ is)
 

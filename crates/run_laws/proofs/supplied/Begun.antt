@@ -21,10 +21,10 @@ use Rattle.comp_graph.specs.declared.graph.CanonFunc.{CanonFunc}
 use Rattle.comp_graph.specs.declared.graph.CanonFunc.TheVariants as canon
 use Rattle.comp_graph.specs.Graph.{CoreMake, Graph, Lifted}
 use Rattle.script_reader.specs.Script.{Script}
-use Rattle.trace_show.specs.declared.label.Label.{Label}
-use Rattle.trace_show.specs.declared.label.Label.TheVariants as line
-use Rattle.trace_show.specs.declared.trap.TrapName.{TrapName}
-use Rattle.trace_show.specs.declared.trap.TrapName.TheVariants as trap
+use Rattle.trace_labels.specs.declared.label.Label.{Label}
+use Rattle.trace_labels.specs.declared.label.Label.TheVariants as line
+use Rattle.trace_labels.specs.declared.trap.TrapName.{TrapName}
+use Rattle.trace_labels.specs.declared.trap.TrapName.TheVariants as trap
 use Rattle.world_parts.specs.Held.{Held}
 use Rattle.res_handles.specs.Refusals.{handle_in, rep_of}
 use Rattle.abi_machine.specs.CoreSteps.{costs, stack_ended, ended_over, moved, running_turn}
@@ -59,14 +59,8 @@ use Rattle.abi_machine.proofs.sound.Callees.{first_has_callees, callees_stay}
 use Rattle.abi_machine.proofs.sound.Reached.{first_stands, standing_stays}
 use Rattle.abi_machine.proofs.sound.Started.{stays_started}
 use Rattle.run_laws.specs.Reached.{StandsReached}
-use Rattle.run_laws.specs.Supplied.{begins, InstancesBegin, InstancesAreThere, CanonsAreInside}
-
--- How many the first actions of a plan begin.
-abbrev begins_to : ℕ → List Action → ℕ
-begins_to zero plan = 0
-begins_to (suc n) [] = 0
-begins_to (suc n) (Begin number ∷ plan) = suc (begins_to n plan)
-begins_to (suc n) (Make number ∷ plan) = begins_to n plan
+use Rattle.reach_laws.specs.KnownPlans.{begins, begins_to, InstancesBegin}
+use Rattle.run_laws.specs.Supplied.{InstancesAreThere, CanonsAreInside}
 
 to_all : (n : ℕ) (plan : List Action) → begins_to n plan ≤ begins plan
 to_all zero plan = omega arith
@@ -102,7 +96,7 @@ past_counts (suc n) (Begin other ∷ plan) e = ap suc (past_counts n plan e)
 past_counts (suc n) (Make other ∷ plan) e = past_counts n plan e
 
 -- The state of task 0.
-abbrev first_state : List Task → TaskState
+abbrev pub first_state : List Task → TaskState
 first_state [] = New
 first_state (x ∷ tasks) = x.state
 
@@ -172,36 +166,36 @@ exits_now : (tasks : List Task) → length tasks ≡ 1 → has_exited (first_sta
 exits_now [] e = absurd (cc)
 exits_now (x ∷ tasks) e = refl
 
-not_exited : (tasks : List Task) → is_instantiated tasks ≡ false → has_exited (first_state tasks) ≡ false
+pub not_exited : (tasks : List Task) → is_instantiated tasks ≡ false → has_exited (first_state tasks) ≡ false
 not_exited [] e = refl
 not_exited (x ∷ tasks) e = e
 
 -- Of a turn, that its step leaves this.
 module _ (P : World → Type 0) where
-  abbrev Leaves : Turn → Type 0
+  abbrev pub Leaves : Turn → Type 0
   Leaves (Steps labels v) = P v
   Leaves (Ends end) = Unit {0}
   Leaves Stuck = Unit {0}
 
-  given_leaves : {A : Type 0} (o : Option A) (f : A → Turn) → ((x : A) → o ≡ Some x → Leaves (f x)) → Leaves (given o f)
+  pub given_leaves : {A : Type 0} (o : Option A) (f : A → Turn) → ((x : A) → o ≡ Some x → Leaves (f x)) → Leaves (given o f)
   given_leaves None f h = tt
   given_leaves (Some x) f h = h x refl
 
-  behind_leaves : (lines : List Label) (t : Turn) → Leaves t → Leaves (behind lines t)
+  pub behind_leaves : (lines : List Label) (t : Turn) → Leaves t → Leaves (behind lines t)
   behind_leaves lines (Steps labels v) h = h
   behind_leaves lines (Ends end) h = tt
   behind_leaves lines Stuck h = tt
 
-  either_leaves : (b : Bool) (t u : Turn) → (b ≡ true → Leaves t) → (b ≡ false → Leaves u) → Leaves (if b then t else u)
+  pub either_leaves : (b : Bool) (t u : Turn) → (b ≡ true → Leaves t) → (b ≡ false → Leaves u) → Leaves (if b then t else u)
   either_leaves true t u h k = h refl
   either_leaves false t u h k = k refl
 
-  charged_leaves : (paid : Bool) (s : Script) (w : World) (f : World → Turn) → ((units : ℕ) → Leaves (f (record w { units = units }))) → Leaves (charged paid s w f)
+  pub charged_leaves : (paid : Bool) (s : Script) (w : World) (f : World → Turn) → ((units : ℕ) → Leaves (f (record w { units = units }))) → Leaves (charged paid s w f)
   charged_leaves false s w f h = h w.units
   charged_leaves true s w f h = either_leaves (nat_lt w.units s.fuel) (f (unit_spent w)) (Ends Fuel) (λ e. h (w.units + 1)) (λ e. tt)
 
 -- How many are begun, by where instantiation is; and until all is, task 0 is alone, and core code runs or a trap is to come.
-record BegunBy (g : Graph) (c : Control) (state : TaskState) (tasks count : ℕ) : Type 0 where
+pub record BegunBy (g : Graph) (c : Control) (state : TaskState) (tasks count : ℕ) : Type 0 where
   pub at_plan : (n : ℕ) → c ≡ Instantiates n → begins_to n g.plan ≤ count
   pub in_start : (n : ℕ) → state ≡ Begins n → begins_to n g.plan ≤ count
   pub all : has_exited state ≡ true → begins g.plan ≤ count
@@ -214,7 +208,7 @@ record OpenBy (g : Graph) (state : TaskState) (tasks count : ℕ) : Type 0 where
   pub all : has_exited state ≡ true → begins g.plan ≤ count
   pub alone : has_exited state ≡ false → tasks ≡ 1
 
-abbrev BegunAt : Graph → World → Type 0
+abbrev pub BegunAt : Graph → World → Type 0
 BegunAt g w = BegunBy g w.control (first_state w.tasks) (length w.tasks) (length w.insts)
 
 abbrev OpenAt : Graph → World → Type 0
@@ -438,7 +432,7 @@ only_first (y ∷ []) (suc zero) x e there = absurd (cc)
 only_first (y ∷ []) (suc (suc n)) x e there = absurd (cc)
 only_first (y ∷ z ∷ tasks) (suc n) x e there = absurd (let two : suc (suc (length tasks)) ≡ 1 = e in omega (arith, two))
 
-alone_runs_none : (w : World) → InitRunsAlone w.tasks w.chain → length w.tasks ≡ 1 → (t : ℕ) (task : Task) → slice_get w.tasks t ≡ Some task
+pub alone_runs_none : (w : World) → InitRunsAlone w.tasks w.chain → length w.tasks ≡ 1 → (t : ℕ) (task : Task) → slice_get w.tasks t ≡ Some task
     → (func_of task.callee ≡ None) × (first_state w.tasks ≡ task.state)
 alone_runs_none w init one t task there =
     let first : slice_get w.tasks 0 ≡ Some task = ap (λ (n : ℕ). slice_get w.tasks n) (sym (only_first w.tasks t task one there)) ∙ there in
@@ -484,10 +478,10 @@ module _ (g : Graph) (s : Script) (w v : World) (labels : List Label) (alone : R
   by_phase true done = late done
   by_phase false yet = early yet (h.alone (not_exited w.tasks yet)) w.control refl (h.core (not_exited w.tasks yet))
 
-  begun_on : BegunAt g v
+  pub begun_on : BegunAt g v
   begun_on = by_phase (is_instantiated w.tasks) refl
 
-first_begun : (g : Graph) → BegunAt g (first_world g)
+pub first_begun : (g : Graph) → BegunAt g (first_world g)
 first_begun g = record {
   at_plan = λ n is. subst (λ (k : ℕ). begins_to k g.plan ≤ 0) (plan_same 0 n is) (omega arith);
   in_start = λ n is. absurd (let clash : Acting ≡ Begins n = is in let none : ⊥ = cc in none);

@@ -13,7 +13,7 @@ use Rattle.comp_graph.specs.declared.graph.CanonFunc.{CanonFunc}
 use Rattle.comp_graph.specs.declared.graph.CanonFunc.TheVariants as canon
 use Rattle.comp_graph.specs.Graph.{Graph, Lifted, builtin_type, canon_type}
 use Rattle.script_reader.specs.Script.{Script}
-use Rattle.trace_show.specs.declared.label.Label.{Label}
+use Rattle.trace_labels.specs.declared.label.Label.{Label}
 use Rattle.world_parts.specs.declared.parts.Rest.{Rest}
 use Rattle.world_parts.specs.declared.parts.Rest.TheVariants as rest
 use Rattle.world_parts.specs.Held.{Held}
@@ -35,7 +35,7 @@ use Rattle.standing.proofs.Found.{word_is}
 use Rattle.run_laws.specs.Supplied.{CallsPassWords, WaitsStandInside, DestructorsPassReps}
 
 -- No run rests where a trap is to come.
-not_doomed : (words : List ℕ) (r : Rest) → IsDoomed (control_of words r) → ⊥
+pub not_doomed : (words : List ℕ) (r : Rest) → IsDoomed (control_of words r) → ⊥
 not_doomed words (rest.Instantiates n) d = d
 not_doomed words rest.Free d = d
 not_doomed words rest.Arrives d = d
@@ -85,7 +85,7 @@ reps_are_passed first stay kept_words g values s h stacks w run r t resource tas
     let one = one_word subtask.words (subst (λ (types : List core_val.ValType). AreWords types subtask.words) takes (passed fits.0 fits.1)) in
     record { made = ap is_some fits.1; rep = one.0; alone = one.1; small = ap (λ (b : Bool). if b then Some one.0 else None) (lt-ltb one.0 (2 ^ 32) one.2) }
 
-typed_now : (g : Graph) (h : Held) (w : World) → w.control ≡ control_at h → IsDoomed w.control ⊎ IsTypedWorld g w → IsTypedWorld g w
+pub typed_now : (g : Graph) (h : Held) (w : World) → w.control ≡ control_at h → IsDoomed w.control ⊎ IsTypedWorld g w → IsTypedWorld g w
 typed_now g h w control (inl doomed) = absurd (not_doomed (acting_words h) h.rest (subst IsDoomed control doomed))
 typed_now g h w control (inr typed) = typed
 

@@ -184,7 +184,7 @@ number_one values kind side zero cs xs ys p q = refl
 number_one values kind side (suc place) cs xs ys p q =
     channel_one values kind side (slice_get cs place) (slice_get xs place) (slice_get ys place) (at_both (ChannelStands values kind) cs xs place p) (at_both (ChannelStands values kind) cs ys place q)
 
-memory_alike : (m : Option CoreRef) (h k : Held) → k.memories ≡ h.memories → places.memory_by m k ≡ places.memory_by m h
+pub memory_alike : (m : Option CoreRef) (h k : Held) → k.memories ≡ h.memories → places.memory_by m k ≡ places.memory_by m h
 memory_alike None h k same = refl
 memory_alike (Some m) h k same = ap (λ (ms : List (Option ℕ)). places.memory_in (slice_get ms m.instance)) same
 

@@ -4,7 +4,7 @@ use Rattle.ca_types.specs.declared.types.ValType.{ValType}
 use Rattle.wasm_store.specs.Stack.{Stack}
 use Rattle.comp_graph.specs.Graph.{Graph}
 use Rattle.script_reader.specs.Script.{Script}
-use Rattle.trace_show.specs.declared.label.Label.{Label}
+use Rattle.trace_labels.specs.declared.label.Label.{Label}
 use Rattle.world_parts.specs.Held.{Held}
 use Rattle.abi_machine.specs.World.{World, first_world}
 use Rattle.abi_machine.specs.Run.{Reaches}

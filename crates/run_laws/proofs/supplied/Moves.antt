@@ -159,7 +159,7 @@ both_pass false b e f = absurd (cc)
 set_long : (sets : List SetView) (set n : ℕ) → set < length sets → (set_at sets set).waiters ≡ n → 0 < n → (is_there set sets && has_waiter set sets) ≡ true
 set_long sets set n less is some = both_pass (is_there set sets) (has_waiter set sets) (lt-ltb set (length sets) less) (ap (nat_lt 0) is ∙ lt-ltb 0 n some)
 
-members_long : (sets : List SetView) → length (members_of sets) ≡ length sets
+pub members_long : (sets : List SetView) → length (members_of sets) ≡ length sets
 members_long [] = refl
 members_long (x ∷ sets) = ap suc (members_long sets)
 
@@ -196,7 +196,7 @@ waited_on p values s h stacks w t index task f r there runs has waits i here =
     (has.0, stood, set_long i.sets has.0 (waiters_at h.tasks f.instance index) (omega (arith, made, long)) (r.marks.waiters f.instance index has.0 i here stood) some)
 
 -- A subtask that stands in the table is a call of the instance's own tasks, and another task than one that runs there.
-task_here : (g : Graph) (values : List ValType) (s : Script) (h : Held) (stacks : List (List Stack)) (w : World) (at n m : ℕ) → Stands g values s h stacks w → n ≡ m
+pub task_here : (g : Graph) (values : List ValType) (s : Script) (h : Held) (stacks : List (List Stack)) (w : World) (at n m : ℕ) → Stands g values s h stacks w → n ≡ m
     → (o : Option Task) → slice_get w.tasks m ≡ o → passes (runs_in at) o ≡ true → is_task_at h.tasks at n ≡ true
 task_here g values s h stacks w at n m st same None e runs = absurd (cc)
 task_here g values s h stacks w at n m st same (Some b) e runs =
@@ -403,7 +403,7 @@ back_so p values s h stacks w t task f r out others there runs (InLoop word) is 
 back_so p values s h stacks w t task f r out others there runs (InBuiltin number words wait) is waits = absurd waits
 back_so p values s h stacks w t task f r out others there runs Exited is waits = absurd waits
 
-waiting_runs : (state : TaskState) (o : Outline) → IsWaitingFor state → StandsBy state o → IsSome (func_of o.callee)
+pub waiting_runs : (state : TaskState) (o : Outline) → IsWaitingFor state → StandsBy state o → IsSome (func_of o.callee)
 waiting_runs New o waits so = absurd waits
 waiting_runs Acting o waits so = absurd waits
 waiting_runs (AfterCall callee number words) o waits so = so.0

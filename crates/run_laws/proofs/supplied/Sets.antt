@@ -9,7 +9,7 @@ use Rattle.handle_table.specs.History.{Event, Add, Remove, live, next_index}
 use Rattle.waitables.specs.Sets as sets
 use Rattle.comp_graph.specs.Graph.{Graph}
 use Rattle.script_reader.specs.Script.{Script}
-use Rattle.trace_show.specs.declared.label.Label.{Label}
+use Rattle.trace_labels.specs.declared.label.Label.{Label}
 use Rattle.instances.specs.declared.entry.WorldEntry.TheVariants as entry
 use Rattle.instances.specs.Instances.{InstanceView, entry_of}
 use Rattle.world_parts.specs.Held.{Held}

@@ -21,7 +21,7 @@ use Rattle.instances.specs.Instances.{InstanceView, entry_of, with_sets, with_ga
 use Rattle.instances.specs.Calls.{is_there, has_waiter}
 use Rattle.instances.specs.declared.entry.WorldEntry.{WorldEntry}
 use Rattle.instances.specs.declared.entry.WorldEntry.TheVariants as entry
-use Rattle.trace_show.specs.declared.label.BlockReason.TheVariants as reason
+use Rattle.trace_labels.specs.declared.label.BlockReason.TheVariants as reason
 use Rattle.task_table.specs.declared.refusal.EventError.{EventError}
 use Rattle.task_table.specs.declared.refusal.EventError.TheVariants as event_error
 use Rattle.task_table.specs.declared.errand.Errand.{Errand}

@@ -9,8 +9,8 @@ use Rattle.instances.specs.declared.entry.EndEntry.{EndEntry}
 use Rattle.instances.specs.Entries.{any_end_in}
 use Rattle.comp_graph.specs.Graph.{Graph}
 use Rattle.graph_views.specs.Canons.{canon_at, instance_of}
-use Rattle.trace_show.specs.declared.label.Copied.{Copied}
-use Rattle.trace_show.specs.declared.label.Label.TheVariants as line
+use Rattle.trace_labels.specs.declared.label.Copied.{Copied}
+use Rattle.trace_labels.specs.declared.label.Label.TheVariants as line
 use Rattle.world_parts.specs.declared.parts.Copying.{Copying}
 use Rattle.world_parts.specs.Held.{Held, Gives, after, given}
 use Rattle.world_parts.specs.Feed.{told, got}

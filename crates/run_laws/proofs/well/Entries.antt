@@ -16,7 +16,7 @@ use Rattle.instances.specs.Entries.{subtask_in, set_in, waitable_in, end_in, any
 use Rattle.instances.specs.Instances as instance
 use Rattle.instances.specs.Instances.{InstanceView, entry_of, view_of, lends_of, with_sets}
 use Rattle.instances.specs.Calls.{is_there, has_waiter, dropped_set}
-use Rattle.trace_show.specs.declared.trap.TrapName.TheVariants as trap
+use Rattle.trace_labels.specs.declared.trap.TrapName.TheVariants as trap
 use Rattle.world_parts.specs.Held.{Held, Gives, Traps, Stuck, given}
 use Rattle.world_parts.specs.Entries.{with_instance, subtask_number, set_number, entry_found, subtask_found, set_found, subtask_known, set_known, waitable_found, end_found, rep_found, sets_made, named, entry_added, removed_of, entry_removed, dropped_of, handle_dropped, lend_ended, end_idled, set_made, set_joined, set_left, set_gone, set_dropped, set_waited_on, set_waited_off}
 use Rattle.run_laws.specs.keeping.Well.{WellStays, KeepsWell}

@@ -14,7 +14,7 @@ use Rattle.copy_engine.specs.declared.lower_values.Lowered.{Lowered}
 use Rattle.copy_engine.specs.declared.lower_values.Lowered.TheVariants as lowered
 use Rattle.programs.specs.declared.program.Program.{Program}
 use Rattle.programs.specs.Program.{resources_of}
-use Rattle.trace_show.specs.declared.label.Label.TheVariants as line
+use Rattle.trace_labels.specs.declared.label.Label.TheVariants as line
 use Rattle.world_parts.specs.Held.{Held, Gives, Stuck, after, given}
 use Rattle.world_parts.specs.Feed.{told}
 use Rattle.world_parts.specs.Slots.{context_set}

@@ -11,7 +11,7 @@ use Rattle.tasks.specs.declared.phase.Phase.TheVariants as phase
 use Rattle.instances.specs.declared.entry.WorldEntry.TheVariants as entry
 use Rattle.instances.specs.Instances.{InstanceView, entry_of}
 use Rattle.task_table.specs.declared.slot.TaskSlot.{TaskSlot}
-use Rattle.trace_show.specs.declared.typed.TypedValue.{TypedValue}
+use Rattle.trace_labels.specs.declared.typed.TypedValue.{TypedValue}
 use Rattle.world_parts.specs.Held.{Held}
 use Rattle.world_parts.specs.Channels.{numbered}
 use Rattle.world_parts.specs.Going.{arrives, enters, leaves, ending, loops, resumes}

@@ -5,7 +5,7 @@ use Rattle.std.specs.List.{slice_get}
 use Rattle.entry_gate.specs.Gates as gate
 use Rattle.entry_gate.specs.Gates.{is_free, with_pressure}
 use Rattle.instances.specs.Instances.{InstanceView, with_gate}
-use Rattle.trace_show.specs.declared.trap.TrapName.TheVariants as trap
+use Rattle.trace_labels.specs.declared.trap.TrapName.TheVariants as trap
 use Rattle.world_parts.specs.Held.{Held, Gives, Traps}
 use Rattle.world_parts.specs.Entries.{with_instance}
 use Rattle.world_parts.specs.Gates.{entry_is_free, pressure_lowered, pressure_raised, pressure_set}

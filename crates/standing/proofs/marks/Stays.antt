@@ -4,7 +4,7 @@ use Rattle.std.specs.Prelude.{Result, Ok, Err}
 use Rattle.res_handles.specs.declared.refusal.Refusal.{Refusal}
 use Rattle.instances.specs.Instances.{InstanceView}
 use Rattle.task_table.specs.declared.slot.TaskSlot.{TaskSlot}
-use Rattle.trace_show.specs.declared.trap.TrapName.{TrapName}
+use Rattle.trace_labels.specs.declared.trap.TrapName.{TrapName}
 use Rattle.world_parts.specs.Held.{Held, Done, Gives, Traps, Spent, Stuck, after, given}
 use Rattle.world_parts.specs.Entries.{named}
 use Rattle.standing.specs.KeptMarks.{GatesMarked, WaitersMarked}

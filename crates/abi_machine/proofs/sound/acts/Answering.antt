@@ -37,10 +37,10 @@ use Rattle.comp_graph.specs.declared.graph.EndOp.{EndOp}
 use Rattle.comp_graph.specs.declared.graph.EndOp.TheVariants as end_op
 use Rattle.comp_graph.specs.Graph.{Graph, Lifted}
 use Rattle.script_reader.specs.Script.{Script}
-use Rattle.trace_show.specs.declared.label.Label.TheVariants as line
-use Rattle.trace_show.specs.declared.label.BlockReason.TheVariants as reason
-use Rattle.trace_show.specs.declared.trap.TrapName.{TrapName}
-use Rattle.trace_show.specs.declared.trap.TrapName.TheVariants as trap
+use Rattle.trace_labels.specs.declared.label.Label.TheVariants as line
+use Rattle.trace_labels.specs.declared.label.BlockReason.TheVariants as reason
+use Rattle.trace_labels.specs.declared.trap.TrapName.{TrapName}
+use Rattle.trace_labels.specs.declared.trap.TrapName.TheVariants as trap
 use Rattle.abi_machine.specs.Traps.{task_name, renamed, refusal_name, set_name}
 use Rattle.abi_machine.specs.Control.{EndRef, Replies, InWait, Back, Doomed}
 use Rattle.abi_machine.specs.World.{Entry, OwnHandle, OfSet, OfEnd, Func, Subtask, ForYield, ForSet, TaskState, New, Acting, AfterCall, AfterCancel, Begins, WaitsToEnter, InLoop, InBuiltin, Exited, Task, World}

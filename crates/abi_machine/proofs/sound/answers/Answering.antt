@@ -33,8 +33,8 @@ use Rattle.comp_graph.specs.declared.graph.CanonFunc.{CanonFunc}
 use Rattle.comp_graph.specs.declared.graph.CanonFunc.TheVariants as canon
 use Rattle.comp_graph.specs.Needs.{flat_param_limit}
 use Rattle.comp_graph.specs.Graph.{Graph, Lifted}
-use Rattle.trace_show.specs.declared.trap.TrapName.{TrapName}
-use Rattle.trace_show.specs.declared.trap.TrapName.TheVariants as trap
+use Rattle.trace_labels.specs.declared.trap.TrapName.{TrapName}
+use Rattle.trace_labels.specs.declared.trap.TrapName.TheVariants as trap
 use Rattle.abi_machine.specs.Control.{EndRef, Replies, InWait, Back}
 use Rattle.abi_machine.specs.Traps.{task_name, set_name, refusal_name, renamed}
 use Rattle.abi_machine.specs.Canons.{func_address, memory_of, bytes_of, options_at, resource_at, lifted_of, destructor_of}

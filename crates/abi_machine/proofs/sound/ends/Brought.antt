@@ -23,9 +23,9 @@ use Rattle.abi_machine.specs.Edits.{changed_at, by_views, entry_removed, left_se
 use Rattle.abi_machine.specs.Reading.{table_in, entry_at, channel_at}
 use Rattle.abi_machine.specs.Counting.{passes, entry_view, view_at, end_of, end_view}
 use Rattle.abi_machine.specs.Finding.{is_end_of}
-use Rattle.abi_machine.specs.Lifting.{Kept, Stopped, Came, own_taken, borrow_taken, end_taken, taken_as}
+use Rattle.abi_machine.specs.Lifting.{Kept, Came, own_taken, borrow_taken, end_taken, taken_as}
 use Rattle.abi_machine.specs.Lifting as lifting
-use Rattle.abi_machine.specs.sound.EndPlaces.{EndStandsAt}
+use Rattle.abi_machine.specs.sound.EndPlaces.{EndStandsAt, EndStandsNowhere, WritersStand}
 use Rattle.abi_machine.specs.sound.EndsPassed.{readable, AreApart, EndStands, IsOnTheWay, ReadersStand, PassesNoEnd, HostPassesNoEnd, ReadersPass}
 use Rattle.abi_machine.proofs.sound.Found.{ok_same}
 use Rattle.abi_machine.proofs.sound.OnePlace.{table_back, none_same, remove_none, AddsNone}
@@ -83,7 +83,7 @@ pub stand_less : (insts others : List Inst) (streams futures : List Channel) →
     → ReadersStand others streams futures
 stand_less insts others streams futures back h = record {
   once = λ i index j other e side a b. h.once i index j other e side (back i index e a) (back j other e b);
-  made = λ i index e side a. h.made i index e side (back i index e a);
+  live = λ i index e side a. h.live i index e side (back i index e a);
 }
 
 pub none_back : (insts : List Inst) (i : ℕ) (f : Inst → Inst) → AddsNone f → (j index : ℕ) (e : EndRef) → EndStandsAt (changed_at i f insts) j index e → EndStandsAt insts j index e
@@ -188,13 +188,30 @@ removed_none zero gone (x ∷ insts) e h = by (nat_eq gone gone) same h
     by false f k = cc
 removed_none (suc i) gone (x ∷ insts) e h = removed_none i gone insts e h
 
+pub removed_nowhere : (i index : ℕ) (e : EndRef) (w : World) → ((j other : ℕ) → EndStandsAt w.insts j other e → (j ≡ i) × (other ≡ index))
+    → EndStandsNowhere (left_set i index (entry_removed i index w)).insts e
+removed_nowhere i index e w once j other k =
+    let there : EndStandsAt (entry_removed i index w).insts j other e = left_back i index (entry_removed i index w) j other e k in
+    let place = once j other (removed_back i index w j other e there) in
+    removed_none i index w.insts e
+    (subst (λ (m : ℕ). EndStandsAt (entry_removed i index w).insts i m e) place.1 (subst (λ (m : ℕ). EndStandsAt (entry_removed i index w).insts m other e) place.0 there))
+
+-- Each end stands in one place, where both the readable and the writable ones do.
+pub both_once : (insts : List Inst) (streams futures : List Channel) → WritersStand insts streams futures → ReadersStand insts streams futures → (i index j other : ℕ) (e : EndRef)
+    → EndStandsAt insts i index e → EndStandsAt insts j other e → (i ≡ j) × (index ≡ other)
+both_once insts streams futures writers readers i index j other e a b = by e.side refl
+  where
+    by : (s : Side) → e.side ≡ s → (i ≡ j) × (index ≡ other)
+    by Reader is = readers.once i index j other e is a b
+    by Writer is = writers.once i index j other e is a b
+
 pub end_brought : (i index : ℕ) (kind : EndKind) (n : ℕ) (w : World) → entry_at w i index ≡ Some (OfEnd (readable kind n)) → Brings w (readable kind n ∷ []) (left_set i index (entry_removed i index w))
 end_brought i index kind n w there = record {
   streams = refl;
   futures = refl;
   hosts = λ none. none;
   back = back;
-  brought = λ h. ((((i, index, there), (h.made i index (readable kind n) refl there, nowhere h)), tt), stand_less w.insts v.insts w.streams w.futures back h);
+  brought = λ h. ((((i, index, there), (h.live i index (readable kind n) refl there, removed_nowhere i index (readable kind n) w (λ j other a. h.once j other i index (readable kind n) refl a there))), tt), stand_less w.insts v.insts w.streams w.futures back h);
 }
   where
     v : World
@@ -202,13 +219,6 @@ end_brought i index kind n w there = record {
 
     back : (j other : ℕ) (e : EndRef) → EndStandsAt v.insts j other e → EndStandsAt w.insts j other e
     back j other e h = removed_back i index w j other e (left_back i index (entry_removed i index w) j other e h)
-
-    nowhere : ReadersStand w.insts w.streams w.futures → (j other : ℕ) → EndStandsAt v.insts j other (readable kind n) → ⊥
-    nowhere h j other k =
-        let place = h.once j other i index (readable kind n) refl (back j other (readable kind n) k) there in
-        removed_none i index w.insts (readable kind n)
-        (subst (λ (m : ℕ). EndStandsAt (entry_removed i index w).insts i m (readable kind n)) place.1
-        (subst (λ (m : ℕ). EndStandsAt (entry_removed i index w).insts m other (readable kind n)) place.0 (left_back i index (entry_removed i index w) j other (readable kind n) k)))
 
 -- What an index that is used brings.
 

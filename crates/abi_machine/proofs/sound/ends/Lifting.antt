@@ -25,7 +25,7 @@ use Rattle.value_lift.specs.Pieces.{part_in, plain_of, text_of, flags_of}
 use Rattle.value_lift.specs.Lifting.{most, low}
 use Rattle.comp_graph.specs.declared.graph.Options.{Options}
 use Rattle.comp_graph.specs.Passed.{params_type}
-use Rattle.trace_show.specs.declared.typed.TypedValue.{TypedValue}
+use Rattle.trace_labels.specs.declared.typed.TypedValue.{TypedValue}
 use Rattle.abi_machine.specs.LiftingOver.{Use, Ledger, Part, CasePart, FieldPart, What, AnOwn, ABorrow, AnEnd, in_fields, in_cases, behind_tag, case_by, field_by}
 use Rattle.abi_machine.specs.LiftingOver as over
 use Rattle.abi_machine.specs.Control.{EndRef}

@@ -1,29 +1,29 @@
 -- Where the script passes no end each readable end stands in one place; and so each change keeps it.
-use Rattle.std.proofs.Common.{◌≡◌, ◌<◌, inl, inr, ℕ, zero, suc, ◌+◌, List, [], ◌∷◌, ◌++◌, length, refl, sym, ◌∙◌, subst, arith, Option, Some}
+use Rattle.std.proofs.Common.{◌≡◌, ◌<◌, inl, inr, ℕ, suc, ◌+◌, List, [], ◌∷◌, ◌++◌, length, refl, sym, ◌∙◌, subst, arith, Option, Some}
 use Rattle.std.specs.Prelude.{IsSome}
 use Rattle.wasm_store.proofs.Lists.{all_at}
 use Rattle.ca_types.specs.declared.types.ValType.{ValType}
 use Rattle.ca_types.specs.declared.value.Value.{Value}
 use Rattle.builtin_kinds.specs.declared.EndKind.{EndKind}
 use Rattle.builtin_kinds.specs.declared.EndKind.TheVariants.{Stream, Future}
-use Rattle.stream_ends.specs.declared.side.Side.TheVariants.{Reader}
+use Rattle.stream_ends.specs.declared.side.Side.TheVariants.{Reader, Writer}
 use Rattle.tasks.specs.declared.phase.Resolution.TheVariants.{Cancelled}
 use Rattle.comp_graph.specs.Graph.{Graph}
 use Rattle.script_reader.specs.declared.script.Item.TheVariants as item
 use Rattle.script_reader.specs.Script.{Script}
 use Rattle.abi_machine.specs.Control.{EndRef}
 use Rattle.abi_machine.specs.World.{Entry, OfSet, OfEnd, Inst, Subtask, Caller, Nobody, Host, Guest, New as IsNew, AfterCall, Task, Channel, World, new_inst, new_task, new_channel}
-use Rattle.abi_machine.specs.Edits.{changed_at, changed_number, with_channel, channel_made, caller_changed}
+use Rattle.abi_machine.specs.Edits.{changed_at, changed_number, with_channel, carried, channel_made, caller_changed}
 use Rattle.abi_machine.specs.Reading.{numbered, channels}
 use Rattle.abi_machine.specs.replies.Streams.{end_ref}
 use Rattle.abi_machine.specs.sound.Changes.{Change, GoesTo, HasStore, SpendsUnit, UsesPicks, TakesItem, BeginsInstance, AddsEntry, MakesSet, RemovesEntry, RemovesWaitable, LeavesSet, JoinsSet, HasBackpressure, IsCalled, Calls, ComesBack, Acts, Begins, Cancels, Blocks, Exits, IsRemoved, Resolves, IsCancelled, HasWord, HasNewStack, HasStack, LosesStack, IsAnswered, IsTold, IsLent, HasResult, MakesChannel, Offers, Transfers, Concludes, DropsEnd, after}
 use Rattle.abi_machine.specs.sound.Premises.{Comes}
-use Rattle.abi_machine.specs.sound.EndPlaces.{EndStandsAt, channel_in}
+use Rattle.abi_machine.specs.sound.EndPlaces.{EndStandsAt, LiveAt, IsLive}
 use Rattle.abi_machine.specs.sound.EndsPassed.{readable, ends_of, IsOnTheWay, ReadersStand, PassesNoEnd, HostPassesNoEnd, ItemPassesNoEnd, ScriptPassesNoEnd, ReadersPass, IsFreshReader}
-use Rattle.abi_machine.proofs.sound.Lists.{all_changed, all_more, there_last, there_front, within}
-use Rattle.abi_machine.proofs.sound.Found.{there_changed}
+use Rattle.abi_machine.proofs.sound.Lists.{all_changed, all_more, within}
 use Rattle.abi_machine.proofs.sound.Aside.{channel_kept, made_kept}
-use Rattle.abi_machine.proofs.sound.OnePlace.{none_same, remove_none, add_back, begun_back, reads_no_write}
+use Rattle.abi_machine.proofs.sound.OnePlace.{none_same, remove_none, add_back, begun_back, reads_no_write, readable_added}
+use Rattle.abi_machine.proofs.sound.ends.Live.{IsDroppedAt, concluded_drops, transferred_drops, offered_drops, other_drops, edit_live, made_live, new_live, same_end}
 use Rattle.abi_machine.proofs.sound.ends.Brought.{stand_less, none_back, hosts_before, hosts_caller}
 
 -- Entries.
@@ -40,9 +40,9 @@ add_stands w i entry fresh h = record {
       | inr old ↦ h.once k index j other e side was old
     ]
   ];
-  made = λ k index e side a. elim (add_back w.insts i entry k index e a) [
+  live = λ k index e side a. elim (add_back w.insts i entry k index e a) [
     | inl new ↦ (fresh_so e side (subst (IsFreshReader w) new.2 fresh)).0
-    | inr old ↦ h.made k index e side old
+    | inr old ↦ h.live k index e side old
   ];
 }
   where
@@ -63,64 +63,55 @@ same_stands insts streams futures i f same h = stand_less insts (changed_at i f 
 
 -- Streams and futures.
 
-numbered_changed : (number n : ℕ) (f : Channel → Channel) (all : List Channel) → IsSome (numbered all n) → IsSome (numbered (changed_number number f all) n)
-numbered_changed zero n f all h = h
-numbered_changed (suc place) zero f all h = h
-numbered_changed (suc place) (suc n) f all h = there_changed all place n f h
+live_as : (insts : List Inst) (streams futures more others : List Channel) → ((i index : ℕ) (e : EndRef) → EndStandsAt insts i index e → IsLive e streams futures → IsLive e more others)
+    → ReadersStand insts streams futures → ReadersStand insts more others
+live_as insts streams futures more others still h = record { once = h.once; live = λ i index e side a. still i index e a (h.live i index e side a) }
 
-numbered_more : (n : ℕ) (new : Channel) (all : List Channel) → IsSome (numbered all n) → IsSome (numbered (all ++ new ∷ []) n)
-numbered_more zero new all h = h
-numbered_more (suc n) new all h = there_front all new n h
+-- what is done to a stream or a future leaves the readable ends that stand as they are
+abbrev KeepsEnds : EndKind → ℕ → (Channel → Channel) → World → Type 0
+KeepsEnds kind number f w = (i index : ℕ) (e : EndRef) (c : Channel) → EndStandsAt w.insts i index e → e.kind ≡ kind → e.number ≡ number → IsDroppedAt e.side (f c) ≡ IsDroppedAt e.side c
 
-made_as : (insts : List Inst) (streams futures more others : List Channel) → ((k : EndKind) (n : ℕ) → IsSome (channel_in k n streams futures) → IsSome (channel_in k n more others)) → ReadersStand insts streams futures
-    → ReadersStand insts more others
-made_as insts streams futures more others still h = record { once = h.once; made = λ i index e side a. still e.kind e.number (h.made i index e side a) }
-
-streams_changed : (number : ℕ) (f : Channel → Channel) (streams futures : List Channel) (k : EndKind) (n : ℕ) → IsSome (channel_in k n streams futures) → IsSome (channel_in k n (changed_number number f streams) futures)
-streams_changed number f streams futures Stream n h = numbered_changed number n f streams h
-streams_changed number f streams futures Future n h = h
-
-futures_changed : (number : ℕ) (f : Channel → Channel) (streams futures : List Channel) (k : EndKind) (n : ℕ) → IsSome (channel_in k n streams futures) → IsSome (channel_in k n streams (changed_number number f futures))
-futures_changed number f streams futures Stream n h = h
-futures_changed number f streams futures Future n h = numbered_changed number n f futures h
-
-more_streams : (new : Channel) (streams futures : List Channel) (k : EndKind) (n : ℕ) → IsSome (channel_in k n streams futures) → IsSome (channel_in k n (streams ++ new ∷ []) futures)
-more_streams new streams futures Stream n h = numbered_more n new streams h
-more_streams new streams futures Future n h = h
-
-more_futures : (new : Channel) (streams futures : List Channel) (k : EndKind) (n : ℕ) → IsSome (channel_in k n streams futures) → IsSome (channel_in k n streams (futures ++ new ∷ []))
-more_futures new streams futures Stream n h = h
-more_futures new streams futures Future n h = numbered_more n new futures h
-
-channel_passes : (kind : EndKind) (number : ℕ) (f : Channel → Channel) (w : World) → ReadersPass w → ReadersPass (with_channel kind number f w)
-channel_passes Stream number f w h = λ none. made_as w.insts w.streams w.futures (changed_number number f w.streams) w.futures (streams_changed number f w.streams w.futures) (h none)
-channel_passes Future number f w h = λ none. made_as w.insts w.streams w.futures w.streams (changed_number number f w.futures) (futures_changed number f w.streams w.futures) (h none)
+channel_passes : (kind : EndKind) (number : ℕ) (f : Channel → Channel) (w : World) → (HostPassesNoEnd w.tasks → KeepsEnds kind number f w) → ReadersPass w → ReadersPass (with_channel kind number f w)
+channel_passes Stream number f w keeps h =
+    λ none.
+    live_as w.insts w.streams w.futures (changed_number number f w.streams) w.futures (λ i index e there l. edit_live Stream e.kind number e.number e.side f w (λ c. keeps none i index e c there) l) (h none)
+channel_passes Future number f w keeps h =
+    λ none.
+    live_as w.insts w.streams w.futures w.streams (changed_number number f w.futures) (λ i index e there l. edit_live Future e.kind number e.number e.side f w (λ c. keeps none i index e c there) l) (h none)
 
 made_passes : (kind : EndKind) (element : Option ValType) (w : World) → ReadersPass w → ReadersPass (channel_made kind element w)
-made_passes Stream element w h = λ none. made_as w.insts w.streams w.futures (w.streams ++ new_channel element ∷ []) w.futures (more_streams (new_channel element) w.streams w.futures) (h none)
-made_passes Future element w h = λ none. made_as w.insts w.streams w.futures w.streams (w.futures ++ new_channel element ∷ []) (more_futures (new_channel element) w.streams w.futures) (h none)
+made_passes Stream element w h =
+    λ none. live_as w.insts w.streams w.futures (w.streams ++ new_channel element ∷ []) w.futures (λ i index e there l. made_live Stream e.kind e.number e.side element w l) (h none)
+made_passes Future element w h =
+    λ none. live_as w.insts w.streams w.futures w.streams (w.futures ++ new_channel element ∷ []) (λ i index e there l. made_live Future e.kind e.number e.side element w l) (h none)
 
 -- The readable end of what was just made stands nowhere.
 
 next_is : (n : ℕ) → n + 1 ≡ suc n
 next_is n = omega arith
 
-last_there : (all : List Channel) (new : Channel) → IsSome (numbered (all ++ new ∷ []) (length all + 1))
-last_there all new = subst (λ (n : ℕ). IsSome (numbered (all ++ new ∷ []) n)) (sym (next_is (length all))) (there_last all new)
-
-none_behind : (all : List Channel) → IsSome (numbered all (length all + 1)) → ⊥
-none_behind all h = (let less : length all < length all = within all (length all) (subst (λ (n : ℕ). IsSome (numbered all n)) (next_is (length all)) h) in omega (arith, less))
+none_behind : (all : List Channel) (c : Channel) → numbered all (length all + 1) ≡ Some c → ⊥
+none_behind all c h =
+    let there : numbered all (suc (length all)) ≡ Some c = subst (λ (n : ℕ). numbered all n ≡ Some c) (next_is (length all)) h in
+    let some : IsSome (numbered all (suc (length all))) = subst (λ (o : Option Channel). IsSome o) (sym there) refl in
+    let less : length all < length all = within all (length all) some in omega (arith, less)
 
 pub reader_is_fresh : (kind : EndKind) (element : Option ValType) (w : World) → ReadersPass w → HostPassesNoEnd (channel_made kind element w).tasks
     → IsFreshReader (channel_made kind element w) (OfEnd (end_ref kind (length (channels kind w) + 1) Reader))
 reader_is_fresh Stream element w h none = inr (
-  last_there w.streams (new_channel element),
-  λ i index there. none_behind w.streams ((h none).made i index (readable Stream (length w.streams + 1)) refl there),
+  new_live Stream element w Reader,
+  λ i index there. (let l = (h none).live i index (readable Stream (length w.streams + 1)) refl there in none_behind w.streams l.0 l.1),
 )
 reader_is_fresh Future element w h none = inr (
-  last_there w.futures (new_channel element),
-  λ i index there. none_behind w.futures ((h none).made i index (readable Future (length w.futures + 1)) refl there),
+  new_live Future element w Reader,
+  λ i index there. (let l = (h none).live i index (readable Future (length w.futures + 1)) refl there in none_behind w.futures l.0 l.1),
 )
+
+-- and the writable end is not dropped, once the readable one was added
+pub new_live_still : (i : ℕ) (kind : EndKind) (element : Option ValType) (w : World)
+    → LiveAt kind (length (channels kind w) + 1) Writer (readable_added i kind element w).streams (readable_added i kind element w).futures
+new_live_still i Stream element w = new_live Stream element w Writer
+new_live_still i Future element w = new_live Future element w Writer
 
 -- Tasks.
 
@@ -142,10 +133,14 @@ readers_kept g s (LeavesSet i index) w may h = λ none. same_stands w.insts w.st
 readers_kept g s (JoinsSet i index set) w may h = λ none. same_stands w.insts w.streams w.futures i _ (λ x. refl) (h none)
 readers_kept g s (HasBackpressure i pressure) w may h = λ none. same_stands w.insts w.streams w.futures i _ (λ x. refl) (h none)
 readers_kept g s (MakesChannel kind element) w may h = made_passes kind element w h
-readers_kept g s (Offers e call) w may h = channel_passes e.kind e.number _ w h
-readers_kept g s (Transfers e size values) w may h = channel_passes e.kind e.number _ _ (channel_passes e.kind e.number _ w h)
-readers_kept g s (Concludes e) w may h = channel_passes e.kind e.number _ w h
-readers_kept g s (DropsEnd e) w may h = channel_passes e.kind e.number _ w h
+readers_kept g s (Offers e call) w may h = channel_passes e.kind e.number _ w (λ none i index x c there kind number. offered_drops e.kind e.side call c.ends x.side) h
+readers_kept g s (Transfers e size values) w may h =
+    channel_passes e.kind e.number _ (with_channel e.kind e.number (carried values) w) (λ none i index x c there kind number. transferred_drops e.kind e.side size (length values) c.ends x.side)
+    (channel_passes e.kind e.number (carried values) w (λ none i index x c there kind number. refl) h)
+readers_kept g s (Concludes e) w may h = channel_passes e.kind e.number _ w (λ none i index x c there kind number. concluded_drops e.kind e.side c.ends x.side) h
+readers_kept g s (DropsEnd e) w may h =
+    channel_passes e.kind e.number _ w
+    (λ none i index x c there kind number. other_drops e.side x.side c.ends (λ same. may.1.1 none i index (subst (EndStandsAt w.insts i index) (same_end x e kind number same) there))) h
 readers_kept g s (GoesTo control) w may h = h
 readers_kept g s (HasStore store) w may h = h
 readers_kept g s SpendsUnit w may h = h

@@ -40,10 +40,10 @@ use Rattle.comp_graph.specs.declared.graph.EndOp.{EndOp}
 use Rattle.comp_graph.specs.declared.graph.EndOp.TheVariants as end_op
 use Rattle.comp_graph.specs.Graph.{Graph, Lifted}
 use Rattle.script_reader.specs.Script.{Script}
-use Rattle.trace_show.specs.declared.label.Label.TheVariants as line
-use Rattle.trace_show.specs.declared.label.BlockReason.TheVariants as reason
-use Rattle.trace_show.specs.declared.trap.TrapName.{TrapName}
-use Rattle.trace_show.specs.declared.trap.TrapName.TheVariants as trap
+use Rattle.trace_labels.specs.declared.label.Label.TheVariants as line
+use Rattle.trace_labels.specs.declared.label.BlockReason.TheVariants as reason
+use Rattle.trace_labels.specs.declared.trap.TrapName.{TrapName}
+use Rattle.trace_labels.specs.declared.trap.TrapName.TheVariants as trap
 use Rattle.abi_machine.specs.Traps.{task_name, renamed, refusal_name, set_name}
 use Rattle.abi_machine.specs.Control.{EndRef, Replies, InWait, Calls, Back, Doomed}
 use Rattle.abi_machine.specs.World.{Entry, OwnHandle, OfSubtask, OfSet, OfEnd, Func, Destroys, Subtask, ForYield, ForSet, AfterCancel, InBuiltin, Task, World}
@@ -89,7 +89,7 @@ use Rattle.abi_machine.proofs.sound.known.Asked.{CancelsWell}
 use Rattle.abi_machine.proofs.sound.known.Asking.{over_resolved, one_callee, stands_here}
 use Rattle.abi_machine.proofs.sound.known.Awaiting.{cancel_alone}
 use Rattle.abi_machine.proofs.sound.known.Events.{first_ready, instance_is, member_comes}
-use Rattle.abi_machine.proofs.sound.known.Keeping.{Known, BlocksAs, CallsItsOwn, Walk, Keeps, Held, still, given_keeps, behind_keeps, either_keeps, goes, refused_keeps, unless_keeps, fault_keeps, runs_keeps, on_keeps, blocked_keeps, entry_keeps, acting_stack_keeps, removes, waits, lends}
+use Rattle.abi_machine.proofs.sound.known.Keeping.{acting_waits_else, Known, BlocksAs, CallsItsOwn, Walk, Keeps, Held, still, given_keeps, behind_keeps, either_keeps, goes, refused_keeps, unless_keeps, fault_keeps, runs_keeps, on_keeps, blocked_keeps, entry_keeps, acting_stack_keeps, removes, waits, lends}
 use Rattle.abi_machine.proofs.sound.known.Moving.{resolves_keeps}
 use Rattle.abi_machine.proofs.sound.known.Waking.{call_keeps, with_keeps, none_keeps, cancel_keeps, yielded_keeps, acting_cancelled_keeps}
 use Rattle.abi_machine.proofs.sound.acts.Nesting.{exempt_leaves}
@@ -162,7 +162,7 @@ module _ {g : Graph} {s : Script} (walk : Walk g s) where
   unfolding yield_turn
   yield_keeps t task number cancellable words w free calls h =
       either_keeps walk (cancellable && is_asked task.cancellation) (yield_cancelled t w) (blocked t (InBuiltin number words ForYield) reason.Yield w) (λ e. yielded_keeps walk t w h)
-      (λ e. blocked_keeps walk t (InBuiltin number words ForYield) reason.Yield w h.1.0 tt (inl free) tt (λ asks. tt) (λ copies. tt) calls (as_is (IsActing true) (WaitsWith true) t w (acting_waits true) h.1) h.0)
+      (λ e. blocked_keeps walk t (InBuiltin number words ForYield) reason.Yield w h.1.0 tt (inl free) tt (λ asks. tt) (λ copies. tt) calls (acting_waits_else true t w h.1) tt (as_is (IsActing true) (WaitsWith true) t w (acting_waits true) h.1) h.0)
 
   new_set_keeps : (t i : ℕ) (w : World) → Held walk true t w → Keeps walk (set_new_turn t i w)
   unfolding set_new_turn
@@ -175,7 +175,7 @@ module _ {g : Graph} {s : Script} (walk : Walk g s) where
   unfolding none_ready
   none_ready_keeps t f wait_op.Poll number words w free there calls mine h = none_keeps walk t f (InWait number words) w mine h
   none_ready_keeps t f wait_op.Wait number words w free there calls mine h =
-      blocked_keeps walk t (InBuiltin number words (ForSet (slice_index words 0))) (reason.Wait (slice_index words 0)) w h.1.0 tt (inl free) there (λ asks. tt) (λ copies. tt) calls (as_is (IsActing true) (WaitsWith true) t w (acting_waits true) h.1) h.0
+      blocked_keeps walk t (InBuiltin number words (ForSet (slice_index words 0))) (reason.Wait (slice_index words 0)) w h.1.0 tt (inl free) there (λ asks. tt) (λ copies. tt) calls (acting_waits_else true t w h.1) tt (as_is (IsActing true) (WaitsWith true) t w (acting_waits true) h.1) h.0
 
   by_ready_keeps : (t : ℕ) (f : Lifted) (op : WaitOp) (number : ℕ) (words : List ℕ) (set : ℕ) (members : List ℕ) (w : World) → (walk.Event → members ≡ ready w f.instance set) → may_leave w ≡ true → BlocksAs g t (InBuiltin number words (ForSet (slice_index words 0))) w → (walk.Apart → CallsItsOwn g number t w) → Is (IsOfFunc f) t w → Held walk true t w → Keeps walk (by_ready g t f op number words set members w)
   unfolding by_ready
@@ -293,7 +293,7 @@ module _ {g : Graph} {s : Script} (walk : Walk g s) where
       let well : walk.Asks → CancelsWell w t callee words =
       λ asks. ((task, there, not_false (is_unasked task.cancellation) k), stands_here g w t number i callee words h.1 (calls (walk.asks_apart asks)) here (subtask_there w i (slice_index words 0) callee e)) in
       either_keeps walk (has_resolved task) (silent Back v) (cancelled_turn g callee task Back v)
-      (λ f. (goes walk Back v (walk.stays (Cancels t callee number words) w (h.1.0, free) (as_is (IsActing true) (WaitsWith true) t w (acting_waits true) h.1, subst (λ (o : Option Task). IsSome o) (sym there) refl, alone, λ asks. (well asks, (task, there, over_resolved task f))) calls h.0), tt, (t, state_first IsCalling (IsActing true) w t (AfterCancel callee number words) (λ o k. tt) h.1)))
+      (λ f. (goes walk Back v (walk.stays (Cancels t callee number words) w (h.1.0, free) (as_is (IsActing true) (WaitsWith true) t w (acting_waits true) h.1, subst (λ (o : Option Task). IsSome o) (sym there) refl, alone, (λ asks. (well asks, (task, there, over_resolved task f))), acting_waits_else true t w h.1) calls h.0), tt, (t, state_first IsCalling (IsActing true) w t (AfterCancel callee number words) (λ o k. tt) h.1)))
       (λ f. acting_cancelled_keeps walk t callee number words task w free there alone well calls h)))))
 
   subtask_drop_keeps : (t i index : ℕ) (w : World) → Held walk true t w → Keeps walk (subtask_drop_turn t i index w)

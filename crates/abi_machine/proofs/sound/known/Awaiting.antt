@@ -12,7 +12,7 @@ use Rattle.abi_machine.specs.Canons.{options_at}
 use Rattle.abi_machine.specs.Reading.{entry_at, func_of, is_in, runs_in}
 use Rattle.abi_machine.specs.Counting.{passes, end_of, waits_at, is_waited_for}
 use Rattle.abi_machine.specs.Finding.{any_end_in, found_end}
-use Rattle.abi_machine.specs.Copying.{Stands, met_by, task_by}
+use Rattle.abi_machine.specs.Copying.{AtOnce, Stands, met_by, task_by}
 use Rattle.abi_machine.specs.replies.Streams.{is_async_copy}
 use Rattle.abi_machine.specs.sound.EndPlaces.{EndStandsAt, channel_in}
 use Rattle.abi_machine.specs.sound.CopyWaits.{IsUnderWay, AwaitsCopy}
@@ -23,7 +23,7 @@ use Rattle.abi_machine.proofs.sound.Chained.{changed_apart}
 use Rattle.abi_machine.proofs.sound.Outlines.{outline_there, Is, is_what}
 use Rattle.abi_machine.proofs.sound.Copied.{end_there}
 use Rattle.abi_machine.proofs.sound.acts.Keeping.{IsIn}
-use Rattle.abi_machine.proofs.sound.OpenStay.{stands_offered, channel_now}
+use Rattle.abi_machine.proofs.sound.OpenStay.{stands_offered, at_once_leaves, channel_now}
 use Rattle.abi_machine.proofs.sound.known.Unawaited.{acts_again, in_this_state}
 use Rattle.abi_machine.proofs.sound.known.Asking.{any_passes, both_true, equal_self, none_both}
 use Rattle.abi_machine.proofs.sound.known.Copying.{NoneAwaits, BlocksCopying, CopyFacts}
@@ -41,7 +41,7 @@ copy_at : (w : World) (e : EndRef) (copy : OpenCopy) → IsUnderWay w.streams w.
 copy_at w e copy under = ap (λ (x : End). x.copy) (end_there w e under.0 under.1) ∙ under.2
 
 -- of a task that waits for it
-awaited_at : (g : Graph) (w : World) (t number index i : ℕ) (e : EndRef) (a : AwaitsCopy g w.insts w.streams w.futures t number index i) → EndStandsAt w.insts i index e → (end_of w e).copy ≡ Some a.copy
+pub awaited_at : (g : Graph) (w : World) (t number index i : ℕ) (e : EndRef) (a : AwaitsCopy g w.insts w.streams w.futures t number index i) → EndStandsAt w.insts i index e → (end_of w e).copy ≡ Some a.copy
 awaited_at g w t number index i e a at =
     let same : a.end ≡ e = one_end a.end e (some_same (sym a.stands ∙ at)) in
     subst (λ (x : EndRef). (end_of w x).copy ≡ Some a.copy) same (copy_at w a.end a.copy a.under)
@@ -65,7 +65,7 @@ cancel_alone g w e facts async u number index x f there runs waits at =
     none_both (options_at g number).is_async ⊥ (ap (λ (n : ℕ). (options_at g n).is_async) (sym a.of_canon) ∙ is) a.waits
 
 -- The copy for which a task waited that goes on.
-found_there : (w : World) (i index : ℕ) (e : EndRef) → found_end w i index ≡ Some e → entry_at w i index ≡ Some (OfEnd e)
+pub found_there : (w : World) (i index : ℕ) (e : EndRef) → found_end w i index ≡ Some e → entry_at w i index ≡ Some (OfEnd e)
 found_there w i index e h = by (entry_at w i index) refl h
   where
     by : (o : Option Entry) → entry_at w i index ≡ o → any_end_in o ≡ Some e → entry_at w i index ≡ Some (OfEnd e)
@@ -89,6 +89,14 @@ again_alone g w t number words index f e facts a mine found u other place x l th
       old.0 (sym b.of_task ∙ (ap (λ (z : OpenCopy). task_by z.by) same ∙ c.of_task))
       )
 ]
+
+-- A call that is answered at once leaves no copy at its end.
+pub over_at_once : (e : EndRef) (call : OpenCopy) (c : Channel) (w : World) → (end_of w e).copy ≡ None → channel_in e.kind e.number w.streams w.futures ≡ Some c
+    → (payload : ℕ) → met_by e.kind e.side call c.ends.view ≡ AtOnce payload → (end_of (offered e call w) e).copy ≡ None
+over_at_once e call c w quiet there payload met =
+    let f : Channel → Channel = λ x. record x { ends = offered_by e.kind e.side call x.ends } in
+    ap (λ (x : End). x.copy) (end_there (offered e call w) e (f c) (channel_now e.kind e.number f w c there))
+    ∙ (at_once_leaves e.kind e.side call c.ends payload met ∙ (ap (λ (x : End). x.copy) (sym (end_there w e c there)) ∙ quiet))
 
 -- A call that stands is what its task blocks for.
 

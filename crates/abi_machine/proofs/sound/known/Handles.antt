@@ -10,7 +10,7 @@ use Rattle.stream_ends.specs.declared.side.Side.TheVariants.{Reader, Writer}
 use Rattle.waitables.specs.declared.refusal.SetRefusal.{SetRefusal}
 use Rattle.waitables.specs.declared.refusal.SetRefusal.TheVariants.{Waiters}
 use Rattle.waitables.specs.Sets.{SetView, drop_answer}
-use Rattle.trace_show.specs.declared.trap.TrapName.{TrapName}
+use Rattle.trace_labels.specs.declared.trap.TrapName.{TrapName}
 use Rattle.abi_machine.specs.Control.{EndRef}
 use Rattle.abi_machine.specs.World.{Entry, OwnHandle, BorrowHandle, OfSubtask, OfSet, OfEnd, World}
 use Rattle.abi_machine.specs.Reading.{entry_at}

@@ -9,27 +9,29 @@ use Rattle.handle_table.specs.History.{live_count, most_live, next_index}
 use Rattle.tasks.specs.declared.phase.Cancellation.TheVariants.{Asked}
 use Rattle.tasks.specs.Tasks.{is_unasked}
 use Rattle.tasks.specs.declared.subtask_state.SubtaskState.TheVariants.{Starting}
-use Rattle.comp_graph.specs.Graph.{Graph}
+use Rattle.stream_ends.specs.declared.open_copy.OpenCopy.{OpenCopy}
+use Rattle.comp_graph.specs.Graph.{Graph, Lifted}
 use Rattle.script_reader.specs.Script.{Script}
-use Rattle.trace_show.specs.declared.label.Label.{Label}
-use Rattle.trace_show.specs.declared.label.BlockReason.{BlockReason}
-use Rattle.trace_show.specs.declared.trap.TrapName.{TrapName}
-use Rattle.trace_show.specs.declared.trap.TrapName.TheVariants as trap
+use Rattle.trace_labels.specs.declared.label.Label.{Label}
+use Rattle.trace_labels.specs.declared.label.BlockReason.{BlockReason}
+use Rattle.trace_labels.specs.declared.trap.TrapName.{TrapName}
+use Rattle.trace_labels.specs.declared.trap.TrapName.TheVariants as trap
 use Rattle.abi_machine.specs.declared.run_end.RunEnd.TheVariants.{Fuel}
-use Rattle.abi_machine.specs.Control.{Control, Free, Chosen, Instantiates, Runs, Lowers, Quiet, Goes as GoesOn, Resumes, Delivers, Doomed}
+use Rattle.abi_machine.specs.Control.{EndRef, Control, Free, Chosen, Instantiates, Runs, Lowers, Quiet, Goes as GoesOn, Resumes, Delivers, Doomed}
 use Rattle.abi_machine.specs.Control as control
-use Rattle.abi_machine.specs.World.{Entry, OfSubtask, OfSet, ForSet, ForCall, TaskState, Acting, AfterCall, Begins, WaitsToEnter, InLoop, InBuiltin, Task, World}
-use Rattle.abi_machine.specs.Edits.{with_control, entry_added, entry_removed, left_set, unit_spent, in_state, control_behind, answered_stacks, lent}
+use Rattle.abi_machine.specs.World.{Entry, OfSubtask, OfSet, OfEnd, Callee, ForSet, ForCall, ForCopy, TaskState, Acting, AfterCall, Begins, WaitsToEnter, InLoop, InBuiltin, Task, World}
+use Rattle.abi_machine.specs.Edits.{with_control, entry_added, entry_removed, left_set, unit_spent, in_state, control_behind, answered_stacks, lent, offered}
 use Rattle.abi_machine.specs.Canons.{canon_at, options_at}
-use Rattle.abi_machine.specs.Reading.{table_in, table_of, entry_at, func_of, may_leave}
+use Rattle.abi_machine.specs.Reading.{table_in, table_of, entry_at, func_of, is_reentrant, may_leave}
 use Rattle.abi_machine.specs.Counting.{waiters_of, end_of}
+use Rattle.abi_machine.specs.Copying.{task_by}
 use Rattle.abi_machine.specs.Lifting.{Kept, Stopped, Came, once_lifted}
 use Rattle.abi_machine.specs.Choosing.{picks_of, chosen}
 use Rattle.abi_machine.specs.Turn.{Turn, Steps, Ends, Stuck, doomed, behind, given, unless_refused, unless, unless_fault, goes_on_with, blocked, charged, with_entry}
 use Rattle.abi_machine.specs.sound.Premises.{HasNoCopy, WasDropped, IsTaken}
 use Rattle.abi_machine.specs.sound.Firsts.{TaskIs}
 use Rattle.abi_machine.specs.sound.Cancels.{IsResolved, IsOver}
-use Rattle.abi_machine.specs.sound.Changes.{Change, GoesTo, SpendsUnit, HasStore, UsesPicks, AddsEntry, RemovesEntry, RemovesWaitable, IsCalled, Calls, ComesBack, Begins, Cancels, Blocks, IsRemoved, IsCancelled, Exits, HasNewStack, HasStack, LosesStack, IsAnswered, IsTold, IsLent, Offers, Concludes, after, Stands, IsFirst, HasFunc, IsBlocked, MayCome}
+use Rattle.abi_machine.specs.sound.Changes.{Change, GoesTo, SpendsUnit, HasStore, UsesPicks, AddsEntry, RemovesEntry, RemovesWaitable, IsCalled, Calls, ComesBack, Acts, Begins, Cancels, Blocks, IsRemoved, IsCancelled, Exits, HasNewStack, HasStack, LosesStack, IsAnswered, IsTold, IsLent, Offers, Concludes, after, Stands, IsFirst, HasFunc, IsBlocked, MayCome}
 use Rattle.abi_machine.specs.sound.Chain.{IsChained}
 use Rattle.abi_machine.specs.sound.Acting.{outlines_of, HasStacks, WaitsWith, StandsBy, HaveStacks, IsActing, IsRunning, OneActs, ActsBy}
 use Rattle.abi_machine.specs.sound.Called.{HaveCalled}
@@ -48,19 +50,33 @@ use Rattle.abi_machine.proofs.sound.acts.Keeping.{IsIn, left_acts, IsUntrapped, 
 use Rattle.abi_machine.proofs.sound.own.Tasks.{IsOwnStore, after_calls_own}
 use Rattle.abi_machine.proofs.sound.Found.{some_same}
 use Rattle.abi_machine.proofs.sound.known.Handles.{IsHandle, handle_is_left, handle_unwaited}
+use Rattle.abi_machine.proofs.sound.known.Unawaited.{CallsInside}
 use Rattle.abi_machine.proofs.sound.known.Asked.{TellsWell, CancelsWell, BlocksAsked, AskedFacts}
 use Rattle.abi_machine.proofs.sound.known.Copying.{NoneAwaits, BlocksCopying, CopyFacts}
 
 -- What else is known where a change comes. A set that is removed is waited on by no task; and where what held at the start of the turn is given, a
--- subtask that is added to a table was called by a canonical function that does not wait, and no task waits in a call for one that is told or
--- cancelled. Where what held of cancellations is given, they are well asked and told, and a subtask that leaves its table was told that it has resolved.
+-- subtask that is added to a table was called by a canonical function that does not wait, from the component instance of the table, and no task waits
+-- in a call for one that is told or cancelled. Where what held of cancellations is given, they are well asked and told, and a subtask that leaves its table was told that it has resolved.
 -- What leaves a table has no copy under way, nor has an end where a call comes; and where what held of copies is given, none waits for one that is told.
+-- A task that changes its state waits for no copy; and where changes that belong together are kept together, none acts again from such a wait, or blocks
+-- in one, by itself, and a call whose offer stands does not wait.
+abbrev pub WaitsElse : TaskState → Type 0
+WaitsElse (InBuiltin number words (ForCopy index)) = ⊥
+WaitsElse state = Unit {0}
+
+abbrev pub WaitsForNone : ℕ → World → Type 0
+WaitsForNone t w = Is (λ o. WaitsElse o.state) t w
+
 abbrev pub NoneWaits : World → ℕ → ℕ → Type 0
 NoneWaits w i index = (set : ℕ) → entry_at w i index ≡ Some (OfSet set) → waiters_of w i index ≡ 0
 
-abbrev pub IsNewEntry : Graph → World → Entry → Type 0
-IsNewEntry g w (OfSubtask callee) = CallIs w.tasks callee (IsAsync g) × IsUnawaited w.tasks callee × StandsNowhere w.insts callee
-IsNewEntry g w entry = Unit {0}
+abbrev pub IsNewEntry : Graph → World → ℕ → Entry → Type 0
+IsNewEntry g w i (OfSubtask callee) = CallIs w.tasks callee (IsAsync g) × IsUnawaited w.tasks callee × StandsNowhere w.insts callee × CallIs w.tasks callee (CallsInside w.tasks i)
+IsNewEntry g w i entry = Unit {0}
+
+-- A task that is called runs in none of the component instances in which the one that calls it runs, or its callers.
+abbrev pub CallsApart : World → Callee → ℕ → Type 0
+CallsApart w callee t = (f : Lifted) → func_of callee ≡ Some f → is_reentrant w f.instance t ≡ false
 
 abbrev pub BlocksAs : Graph → ℕ → TaskState → World → Type 0
 BlocksAs g t (InBuiltin number words (ForSet index)) w = (i : ℕ) × (owner_of_canon g number ≡ Some i) × HasSetAt (table_in (slice_get w.insts i)) index
@@ -68,26 +84,28 @@ BlocksAs g t (InBuiltin number words (ForCall callee)) w = Is (IsIn (AfterCall c
 BlocksAs g t (InLoop word) w = Is (λ o. LoopsIn w.insts (func_of o.callee) word) t w
 BlocksAs g t state w = Unit {0}
 
-abbrev pub Besides : Type 0 → Type 0 → Type 0 → Graph → Change → World → Type 0
-Besides F D C g (ComesBack t) w = ⊥
-Besides F D C g (IsRemoved t) w = ⊥
-Besides F D C g (Calls number callee subtask words) w = (subtask.canon ≡ number) × Is (WaitsWith true) subtask.by w × IsSome (canon_at g number) × (subtask.told ≡ Starting)
-Besides F D C g (Cancels t callee number words) w =
-    Is (WaitsWith true) t w × IsSome (slice_get w.tasks callee) × (F → IsUnawaited w.tasks callee) × (D → CancelsWell w t callee words × TaskIs w.tasks callee IsResolved)
-Besides F D C g (Blocks t state) w = BlocksAs g t state w × Is (StandsBy state) t w × (D → BlocksAsked t state w) × (C → BlocksCopying g t state w)
-Besides F D C g (Exits t) w = Is (λ o. HasStacks false o.stacks) t w
-Besides F D C g (IsCancelled t cancellation) w = is_unasked cancellation ≡ false
-Besides F D C g (HasNewStack t k) w = Is MayHaveStacks t w
-Besides F D C g (HasStack t k) w = Is MayHaveStacks t w
-Besides F D C g (LosesStack t) w = Is MayHaveStacks t w
-Besides F D C g (IsAnswered t words) w = Is MayHaveStacks t w
-Besides F D C g (AddsEntry i entry) w = F → IsNewEntry g w entry
-Besides F D C g (RemovesEntry i index) w = NoneWaits w i index
-Besides F D C g (RemovesWaitable i index) w = (D → (callee : ℕ) → entry_at w i index ≡ Some (OfSubtask callee) → CallIs w.tasks callee IsOver) × Stands w i index (HasNoCopy w)
-Besides F D C g (IsTold t state) w = (F → IsUnawaited w.tasks t) × (D → TellsWell w t state)
-Besides F D C g (Offers e call) w = (end_of w e).copy ≡ None
-Besides F D C g (Concludes e) w = C → NoneAwaits w e
-Besides F D C g change w = Unit {0}
+abbrev pub Besides : Type 0 → Type 0 → Type 0 → Type 0 → Graph → Change → World → Type 0
+Besides F D C J g (ComesBack t) w = ⊥
+Besides F D C J g (IsRemoved t) w = ⊥
+Besides F D C J g (Calls number callee subtask words) w = (subtask.canon ≡ number) × Is (WaitsWith true) subtask.by w × IsSome (canon_at g number) × (subtask.told ≡ Starting) × CallsApart w callee subtask.by × WaitsForNone subtask.by w
+Besides F D C J g (Cancels t callee number words) w =
+    Is (WaitsWith true) t w × IsSome (slice_get w.tasks callee) × (F → IsUnawaited w.tasks callee) × (D → CancelsWell w t callee words × TaskIs w.tasks callee IsResolved) × WaitsForNone t w
+Besides F D C J g (Blocks t state) w = BlocksAs g t state w × Is (StandsBy state) t w × (D → BlocksAsked t state w) × (C → BlocksCopying g t state w) × WaitsForNone t w × (J → WaitsElse state)
+Besides F D C J g (Exits t) w = Is (λ o. HasStacks false o.stacks) t w × WaitsForNone t w
+Besides F D C J g (Acts t) w = J → WaitsForNone t w
+Besides F D C J g (Begins n) w = WaitsForNone 0 w
+Besides F D C J g (IsCancelled t cancellation) w = is_unasked cancellation ≡ false
+Besides F D C J g (HasNewStack t k) w = Is MayHaveStacks t w
+Besides F D C J g (HasStack t k) w = Is MayHaveStacks t w
+Besides F D C J g (LosesStack t) w = Is MayHaveStacks t w
+Besides F D C J g (IsAnswered t words) w = Is MayHaveStacks t w
+Besides F D C J g (AddsEntry i entry) w = F → IsNewEntry g w i entry
+Besides F D C J g (RemovesEntry i index) w = NoneWaits w i index
+Besides F D C J g (RemovesWaitable i index) w = (D → (callee : ℕ) → entry_at w i index ≡ Some (OfSubtask callee) → CallIs w.tasks callee IsOver) × Stands w i index (HasNoCopy w)
+Besides F D C J g (IsTold t state) w = (F → IsUnawaited w.tasks t) × (D → TellsWell w t state)
+Besides F D C J g (Offers e call) w = ((end_of w e).copy ≡ None) × (J → ((options_at g call.canon).is_async ≡ true) ⊎ ((end_of (offered e call w) e).copy ≡ None))
+Besides F D C J g (Concludes e) w = C → NoneAwaits w e
+Besides F D C J g change w = Unit {0}
 
 -- Where the graph is apart: what comes is the component instance's own.
 abbrev pub CallsItsOwn : Graph → ℕ → ℕ → World → Type 0
@@ -141,6 +159,7 @@ pub record Walk (g : Graph) (s : Script) : Type 1 where
   pub Event : Type 0
   pub Asks : Type 0
   pub Copies : Type 0
+  pub Joins : Type 0
   pub Holds : World → Type 0
   pub alone : (w : World) → Holds w → Alone w
   pub chained : (w : World) → Holds w → IsChained w
@@ -149,7 +168,7 @@ pub record Walk (g : Graph) (s : Script) : Type 1 where
   pub events : Event → Apart
   pub asks_apart : Asks → Apart
   pub own : Apart → (w : World) → Holds w → IsOwnWorld g w
-  pub stays : (c : Change) (w : World) → MayCome g s c w → Besides Given Asks Copies g c w → (Apart → Owns g c w) → Holds w → Holds (after c w)
+  pub stays : (c : Change) (w : World) → MayCome g s c w → Besides Given Asks Copies Joins g c w → (Apart → Owns g c w) → Holds w → Holds (after c w)
   pub comes : (t : ℕ) (w : World) (task : Task) → slice_get w.tasks t ≡ Some task → IsSome (func_of task.callee) → IsBlocked task.state → w.chain ≡ [] → Holds w → Holds (after (ComesBack t) w)
   pub removed : (t : ℕ) (w : World) (task : Task) → slice_get w.tasks t ≡ Some task → IsSome (func_of task.callee) → task.state ≡ WaitsToEnter → w.chain ≡ [] → Holds w → Holds (after (IsRemoved t) w)
   pub comes_asked : (t callee number : ℕ) (words : List ℕ) (w : World) (task : Task) → Is (IsActing true) t w → may_leave w ≡ true → slice_get w.tasks callee ≡ Some task → IsSome (func_of task.callee)
@@ -158,11 +177,28 @@ pub record Walk (g : Graph) (s : Script) : Type 1 where
       → task.state ≡ WaitsToEnter → (Given → IsUnawaited w.tasks callee) → (Asks → CancelsWell w t callee words) → (Apart → CallsItsOwn g number t w) → Holds w → Holds (after (IsRemoved callee) (after (Cancels t callee number words) w))
   pub pending_asked : (t callee number : ℕ) (words : List ℕ) (w : World) (task : Task) → Is (IsActing true) t w → may_leave w ≡ true → slice_get w.tasks callee ≡ Some task
       → (Given → IsUnawaited w.tasks callee) → (Asks → CancelsWell w t callee words) → (Apart → CallsItsOwn g number t w) → Holds w → Holds (after (IsCancelled callee Asked) (after (Cancels t callee number words) w))
+  -- A call whose offer stands blocks until its copy is over; and the copy is told where the task goes on.
+  pub stands : (t i index : ℕ) (e : EndRef) (call : OpenCopy) (words : List ℕ) (w : World) → Is (IsActing true) t w → may_leave w ≡ true → (end_of w e).copy ≡ None → task_by call.by ≡ t
+      → (options_at g call.canon).is_async ≡ false → owner_of_canon g call.canon ≡ Some i → entry_at w i index ≡ Some (OfEnd e)
+      → (Copies → BlocksCopying g t (InBuiltin call.canon words (ForCopy index)) (offered e call w)) → (Apart → CallsItsOwn g call.canon t w) → Holds w
+      → Holds (after (Blocks t (InBuiltin call.canon words (ForCopy index))) (after (Offers e call) w))
+  pub wakes : (t number index : ℕ) (words : List ℕ) (f : Lifted) (e : EndRef) (w : World) → Is (IsIn (InBuiltin number words (ForCopy index))) t w → Is (λ o. func_of o.callee ≡ Some f) t w
+      → entry_at w f.instance index ≡ Some (OfEnd e) → (Copies → NoneAwaits (in_state t Acting w) e) → Holds w → Holds (after (Concludes e) (after (Acts t) w))
 
 -- no choice
 pub behind_promised : (A E : Type 0) (g : Graph) (s : Script) (chain : List ℕ) (w : World) → Promises A E g s (control_behind chain) w
 behind_promised A E g s [] w = tt
 behind_promised A E g s (t ∷ below) w = tt
+
+-- A task that acts waits for no copy, nor does one that called another one, or is new, in its loop or at its entry.
+pub acting_waits_else : (b : Bool) (t : ℕ) (w : World) → Is (IsActing b) t w → WaitsForNone t w
+acting_waits_else b t w a = as_is (IsActing b) (λ o. WaitsElse o.state) t w (λ o k. subst WaitsElse (sym k.1) tt) a
+
+pub state_waits_else : (state : TaskState) (t : ℕ) (w : World) → WaitsElse state → Is (IsIn state) t w → WaitsForNone t w
+state_waits_else state t w otherwise a = as_is (IsIn state) (λ o. WaitsElse o.state) t w (λ o k. subst WaitsElse (sym k) otherwise) a
+
+pub called_waits_else : (w : World) (t callee number : ℕ) (words : List ℕ) → Is (IsIn (AfterCall callee number words)) t w → WaitsForNone t w
+called_waits_else w t callee number words a = state_waits_else (AfterCall callee number words) t w tt a
 
 module _ {g : Graph} {s : Script} (walk : Walk g s) where
   -- a turn whose step leaves it so
@@ -179,7 +215,7 @@ module _ {g : Graph} {s : Script} (walk : Walk g s) where
   abbrev pub Held : Bool → ℕ → World → Type 0
   Held b t w = walk.Holds w × Is (IsActing b) t w
 
-  pub still : (b : Bool) (t : ℕ) (c : Change) (w : World) → MayCome g s c w → Besides walk.Given walk.Asks walk.Copies g c w → (walk.Apart → Owns g c w) → IsSteady c → Held b t w → Held b t (after c w)
+  pub still : (b : Bool) (t : ℕ) (c : Change) (w : World) → MayCome g s c w → Besides walk.Given walk.Asks walk.Copies walk.Joins g c w → (walk.Apart → Owns g c w) → IsSteady c → Held b t w → Held b t (after c w)
   still b t c w may besides own is h = (walk.stays c w may besides own h.0, steady (IsActing b) t c w is h.1)
 
   -- where it is the first of the chain
@@ -250,9 +286,16 @@ module _ {g : Graph} {s : Script} (walk : Walk g s) where
   pub acting_stack_keeps : (b : Bool) (t : ℕ) (k : Stack) (w : World) → (walk.Apart → HasOwnStack g t k w) → Held b t w → walk.Holds (with_control Runs (after (HasNewStack t k) w)) × Unit {0} × OneActs IsRunning (outlines_of (after (HasNewStack t k) w).tasks) w.chain
   acting_stack_keeps b t k w own h = new_stack_keeps t k w own h.0 (as_is (IsActing b) InTask t w (acting_runs b) h.1)
 
-  pub blocked_keeps : (t : ℕ) (state : TaskState) (reason : BlockReason) (w : World) → IsFirst t w.chain → IsBlocked state → (may_leave w ≡ true) ⊎ HasFunc w.tasks t → BlocksAs g t state w → (walk.Asks → BlocksAsked t state w) → (walk.Copies → BlocksCopying g t state w) → (walk.Apart → BlocksOwn g t state w) → Is (StandsBy state) t w → walk.Holds w → Keeps (blocked t state reason w)
-  blocked_keeps t state reason w first is may known asked copying own stacks h =
-      (goes (control_behind (drop 1 w.chain)) (after (Blocks t state) w) (walk.stays (Blocks t state) w (first, is, may) (known, stacks, asked, copying) own h), behind_promised walk.Apart walk.Event g s (drop 1 w.chain) (with_control (control_behind (drop 1 w.chain)) (after (Blocks t state) w)), left_acts w t state first (walk.chained w h))
+  pub blocked_so : (t : ℕ) (state : TaskState) (reason : BlockReason) (w : World) → IsFirst t w.chain → IsChained w → walk.Holds (after (Blocks t state) w) → Keeps (blocked t state reason w)
+  blocked_so t state reason w first chained h = (
+    goes (control_behind (drop 1 w.chain)) (after (Blocks t state) w) h,
+    behind_promised walk.Apart walk.Event g s (drop 1 w.chain) (with_control (control_behind (drop 1 w.chain)) (after (Blocks t state) w)),
+    left_acts w t state first chained,
+  )
+
+  pub blocked_keeps : (t : ℕ) (state : TaskState) (reason : BlockReason) (w : World) → IsFirst t w.chain → IsBlocked state → (may_leave w ≡ true) ⊎ HasFunc w.tasks t → BlocksAs g t state w → (walk.Asks → BlocksAsked t state w) → (walk.Copies → BlocksCopying g t state w) → (walk.Apart → BlocksOwn g t state w) → WaitsForNone t w → WaitsElse state → Is (StandsBy state) t w → walk.Holds w → Keeps (blocked t state reason w)
+  blocked_keeps t state reason w first is may known asked copying own before otherwise stacks h =
+      blocked_so t state reason w first (walk.chained w h) (walk.stays (Blocks t state) w (first, is, may) (known, stacks, asked, copying, before, λ joins. otherwise) own h)
 
   -- one that waits for a task that it called
   pub waited_keeps : (t callee number : ℕ) (words : List ℕ) (reason : BlockReason) (w : World) → Is (IsIn (AfterCall callee number words)) t w → (options_at g number).is_async ≡ false → HasFunc w.tasks t → walk.Holds w
@@ -262,7 +305,7 @@ module _ {g : Graph} {s : Script} (walk : Walk g s) where
       let behind : Control = control_behind (drop 1 w.chain) in
       subst (λ (all : List Task). walk.Holds (let v : World = record w { tasks = all; chain = drop 1 w.chain; control = behind } in v) × Promises walk.Apart walk.Event g s behind (let v : World = record w { tasks = all; chain = drop 1 w.chain; control = behind } in v) × ActsBy behind (outlines_of all) (drop 1 w.chain))
       (sym (changed_twice t (λ task. record task { state = Acting }) (λ task. record task { state = state }) w.tasks))
-      (goes behind (after (Blocks t state) w) (walk.stays (Blocks t state) w (a.0, tt, inr runs) ((a, sync), waits_stacked w t callee number words a (walk.stacked w h), (λ asks. tt), (λ copies. tt)) (λ apart. after_calls_own g w t callee number words (walk.own apart w h) a) h), behind_promised walk.Apart walk.Event g s (drop 1 w.chain) (with_control behind (after (Blocks t state) w)), left_acts w t state a.0 (walk.chained w h))
+      (goes behind (after (Blocks t state) w) (walk.stays (Blocks t state) w (a.0, tt, inr runs) ((a, sync), waits_stacked w t callee number words a (walk.stacked w h), (λ asks. tt), (λ copies. tt), called_waits_else w t callee number words a, (λ joins. tt)) (λ apart. after_calls_own g w t callee number words (walk.own apart w h) a) h), behind_promised walk.Apart walk.Event g s (drop 1 w.chain) (with_control behind (after (Blocks t state) w)), left_acts w t state a.0 (walk.chained w h))
 
   pub entry_keeps : (t i : ℕ) (entry : Entry) (w : World) (more : ℕ → World → Turn) → Leads t w
       → (live_count (table_of w i) < most_live → Keeps (more (next_index (table_of w i)) (entry_added i entry w))) → Keeps (with_entry t i entry w more)

@@ -23,11 +23,11 @@ use Rattle.comp_graph.specs.declared.graph.Action.TheVariants.{Begin, Make}
 use Rattle.comp_graph.specs.declared.graph.FuncRef.{FuncRef}
 use Rattle.comp_graph.specs.Graph.{CoreMake, Graph, Lifted}
 use Rattle.script_reader.specs.Script.{Script}
-use Rattle.trace_show.specs.declared.label.Label.TheVariants as line
-use Rattle.trace_show.specs.declared.label.BlockReason.{BlockReason}
-use Rattle.trace_show.specs.declared.label.BlockReason.TheVariants as reason
-use Rattle.trace_show.specs.declared.trap.TrapName.TheVariants as trap
-use Rattle.trace_show.specs.declared.typed.TypedValue.{TypedValue}
+use Rattle.trace_labels.specs.declared.label.Label.TheVariants as line
+use Rattle.trace_labels.specs.declared.label.BlockReason.{BlockReason}
+use Rattle.trace_labels.specs.declared.label.BlockReason.TheVariants as reason
+use Rattle.trace_labels.specs.declared.trap.TrapName.TheVariants as trap
+use Rattle.trace_labels.specs.declared.typed.TypedValue.{TypedValue}
 use Rattle.abi_machine.specs.Traps.{core_name, task_name}
 use Rattle.abi_machine.specs.Control.{After, Replies, Finishes, Free, Instantiates, Runs, Leaves, Doomed}
 use Rattle.abi_machine.specs.Control as control
@@ -56,7 +56,7 @@ use Rattle.abi_machine.proofs.sound.Found.{func_changed, acting_first, acting_is
 use Rattle.abi_machine.proofs.sound.Outlines.{Is, as_is, state_first, stacks_first, Runs as InTask, acting_waits}
 use Rattle.abi_machine.proofs.sound.acts.Keeping.{is_first, acts_at, acts_by, left_acts}
 use Rattle.abi_machine.proofs.sound.acts.Moving.{IsLeftAs, left_runs, may_stack, stacked_again, runs_now}
-use Rattle.abi_machine.proofs.sound.known.Keeping.{Walk, Keeps, Held, still, given_keeps, behind_keeps, goes, refused_keeps, unless_keeps, fault_keeps, charged_keeps, runs_keeps, on_keeps, blocked_keeps, behind_promised, new_stack_keeps, removes, waits, lends, KeptSo, StoppedSo, came_keeps}
+use Rattle.abi_machine.proofs.sound.known.Keeping.{Walk, Keeps, Held, still, given_keeps, behind_keeps, goes, refused_keeps, unless_keeps, fault_keeps, charged_keeps, runs_keeps, on_keeps, blocked_keeps, behind_promised, new_stack_keeps, removes, waits, lends, KeptSo, StoppedSo, came_keeps, WaitsElse, WaitsForNone, acting_waits_else}
 
 -- a task whose function it is goes on in its loop by what the word says
 loops_by : (insts : List Inst) (f : Lifted) (word : ℕ) (r : Result Next BadCode) (o : Option Lifted) → callback_of word ≡ r → GoesOnBy (table_in (slice_get insts f.instance)) r → o ≡ Some f → LoopsIn insts o word
@@ -113,7 +113,7 @@ module _ {g : Graph} {s : Script} (walk : Walk g s) where
   leaving_keeps w h o =
       given_keeps walk (acting w) _ (λ a e. (
         goes walk (control_behind (drop 1 w.chain)) (after (Exits a.0) w)
-            (walk.stays (Exits a.0) w (acting_first w a e) (as_is (IsActing false) (λ x. HasStacks false x.stacks) a.0 w (λ x k. k.2) (acts_at (IsActing false) w a e o)) (λ apart. tt) h),
+            (walk.stays (Exits a.0) w (acting_first w a e) (as_is (IsActing false) (λ x. HasStacks false x.stacks) a.0 w (λ x k. k.2) (acts_at (IsActing false) w a e o), acting_waits_else false a.0 w (acts_at (IsActing false) w a e o)) (λ apart. tt) h),
         behind_promised walk.Apart walk.Event g s (drop 1 w.chain) (with_control (control_behind (drop 1 w.chain)) (after (Exits a.0) w)),
         left_acts w a.0 Exited (acting_first w a e) (walk.chained w h),
       ))
@@ -122,7 +122,7 @@ module _ {g : Graph} {s : Script} (walk : Walk g s) where
 
   -- A task blocks in its loop.
   looped_keeps : (t word : ℕ) (why : BlockReason) (w : World) → HasFunc w.tasks t → Is (λ o. LoopsIn w.insts (func_of o.callee) word) t w → Held walk false t w → Keeps walk (blocked t (InLoop word) why w)
-  looped_keeps t word why w runs loops h = blocked_keeps walk t (InLoop word) why w h.1.0 tt (inr runs) loops (λ asks. tt) (λ copies. tt) (λ apart. tt) (as_is (IsActing false) (WaitsWith false) t w (acting_waits false) h.1) h.0
+  looped_keeps t word why w runs loops h = blocked_keeps walk t (InLoop word) why w h.1.0 tt (inr runs) loops (λ asks. tt) (λ copies. tt) (λ apart. tt) (acting_waits_else false t w h.1) tt (as_is (IsActing false) (WaitsWith false) t w (acting_waits false) h.1) h.0
 
   next_keeps : (t : ℕ) (task : Task) (f : Lifted) (word : ℕ) (r : Result Next BadCode) (w : World) → callback_of word ≡ r → HasFunc w.tasks t → Is (λ o. func_of o.callee ≡ Some f) t w → Held walk false t w
       → Keeps walk (next_turn t task f.instance word r w)
@@ -154,7 +154,7 @@ module _ {g : Graph} {s : Script} (walk : Walk g s) where
       → Keeps walk (stack_ended g t task state words w)
   unfolding stack_ended
   stack_keeps t task (Begins n) words w a r runs own h =
-      (goes walk (Instantiates n) (in_state t Acting w) (walk.stays (Acts t) w a.0 tt (λ apart. tt) h), own, (t, state_first IsStarting (IsLeftAs task.callee (Begins n) []) w t Acting (λ o k. (refl, k.2)) a))
+      (goes walk (Instantiates n) (in_state t Acting w) (walk.stays (Acts t) w a.0 (λ joins. as_is (IsLeftAs task.callee (Begins n) []) (λ o. WaitsElse o.state) t w (λ o k. subst WaitsElse (sym k.1) tt) a) (λ apart. tt) h), own, (t, state_first IsStarting (IsLeftAs task.callee (Begins n) []) w t Acting (λ o k. (refl, k.2)) a))
   stack_keeps t task Acting words w a r runs own h =
       given_keeps walk (func_of task.callee) _ (λ f e. func_keeps t task f (kind_of task) words w (runs r) (as_is (IsLeftAs task.callee Acting []) (λ o. func_of o.callee ≡ Some f) t w (λ o k. ap func_of k.0 ∙ e) a)
       (h, as_is (IsLeftAs task.callee Acting []) (IsActing false) t w (λ o k. (subst (λ (c : Callee). IsSome (func_of c)) (sym k.0) r, k.1, k.2)) a))
@@ -213,6 +213,10 @@ module _ {g : Graph} {s : Script} (walk : Walk g s) where
   first_of_one : (w : World) → w.chain ≡ 0 ∷ [] → IsFirst 0 w.chain
   first_of_one w one = ap (λ (l : List ℕ). slice_get l 0) one
 
+  -- it waits for no copy
+  starting_waits_else : (w : World) → w.chain ≡ 0 ∷ [] → OneActs IsStarting (outlines_of w.tasks) w.chain → WaitsForNone 0 w
+  starting_waits_else w one o = as_is IsStarting (λ x. WaitsElse x.state) 0 w (λ x k. subst WaitsElse (sym k.0) tt) (is_first IsStarting w 0 (first_of_one w one) o)
+
   start_keeps : (n : ℕ) (k : Option Stack) (w : World) → w.chain ≡ 0 ∷ [] → (walk.Apart → IsMadeUpTo g (length w.store.instances) n) → walk.Holds w → OneActs IsStarting (outlines_of w.tasks) w.chain
       → Keeps walk (started_up n k w)
   unfolding started_up
@@ -220,7 +224,7 @@ module _ {g : Graph} {s : Script} (walk : Walk g s) where
   start_keeps n (Some k) w one made h o =
       new_stack_keeps walk 0 k (in_state 0 (Begins n) w)
       (λ apart. state_first (λ (x : Outline). IsOwnStack g (func_of x.callee) k) (λ (x : Outline). IsOwnStack g (func_of x.callee) k) w 0 (Begins n) (λ x i. i) (init_own g w k (walk.alone w h) (first_of_one w one)))
-      (walk.stays (IsBegun n) w (first_of_one w one) tt made h) (state_first InTask IsStarting w 0 (Begins n) (λ x i. tt) (is_first IsStarting w 0 (first_of_one w one) o))
+      (walk.stays (IsBegun n) w (first_of_one w one) (starting_waits_else w one o) made h) (state_first InTask IsStarting w 0 (Begins n) (λ x i. tt) (is_first IsStarting w 0 (first_of_one w one) o))
 
   -- so many core instances are made, and one more
   abbrev MakesOne : ℕ → Instantiation → World → Type 0
@@ -254,7 +258,7 @@ module _ {g : Graph} {s : Script} (walk : Walk g s) where
       → Keeps walk (action_turn g n a w)
   unfolding action_turn
   action_keeps n None w at one so h o = (
-    goes walk Free (after (Exits 0) w) (walk.stays (Exits 0) w (first_of_one w one) (as_is IsStarting (λ x. HasStacks false x.stacks) 0 w (λ x k. k.1) (is_first IsStarting w 0 (first_of_one w one) o)) (λ apart. tt) h),
+    goes walk Free (after (Exits 0) w) (walk.stays (Exits 0) w (first_of_one w one) (as_is IsStarting (λ x. HasStacks false x.stacks) 0 w (λ x k. k.1) (is_first IsStarting w 0 (first_of_one w one) o), starting_waits_else w one o) (λ apart. tt) h),
     tt,
     ap (λ (l : List ℕ). drop 1 l) one,
   )

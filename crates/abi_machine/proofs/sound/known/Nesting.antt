@@ -1,5 +1,5 @@
 -- Reads and writes, nested code and lowerings keep what each change keeps.
-use Rattle.std.proofs.Common.{◌≡◌, ◌∙◌, inl, ℕ, true, false, nat_eq, List, [], ◌∷◌, length, refl, sym, subst, Option, Some, None, Result, Ok, Err}
+use Rattle.std.proofs.Common.{◌≡◌, ◌∙◌, inl, inr, ℕ, true, false, nat_eq, List, [], ◌∷◌, length, refl, sym, subst, Option, Some, None, Result, Ok, Err}
 use Rattle.wasm_store.specs.Store.{Store, found_at}
 use Rattle.wasm_store.specs.Step.{start}
 use Rattle.wasm_store.specs.Stack.{Stack}
@@ -8,10 +8,10 @@ use Rattle.stream_ends.specs.declared.open_copy.OpenCopy.{OpenCopy}
 use Rattle.comp_graph.specs.declared.graph.CanonFunc.{CanonFunc}
 use Rattle.comp_graph.specs.Graph.{Graph}
 use Rattle.script_reader.specs.Script.{Script}
-use Rattle.trace_show.specs.declared.label.Label.TheVariants as line
-use Rattle.trace_show.specs.declared.label.BlockReason.TheVariants as reason
-use Rattle.trace_show.specs.declared.trap.TrapName.{TrapName}
-use Rattle.trace_show.specs.declared.trap.TrapName.TheVariants as trap
+use Rattle.trace_labels.specs.declared.label.Label.TheVariants as line
+use Rattle.trace_labels.specs.declared.label.BlockReason.TheVariants as reason
+use Rattle.trace_labels.specs.declared.trap.TrapName.{TrapName}
+use Rattle.trace_labels.specs.declared.trap.TrapName.TheVariants as trap
 use Rattle.abi_machine.specs.Traps.{core_name}
 use Rattle.abi_machine.specs.LoweringOver.{New, NewOwn, NewBorrow, NewEnd, Plan}
 use Rattle.abi_machine.specs.Control.{EndRef, Copying, Then, Starts, Resolves, Transfers, Lowering, Nested, Behind, InLowering, BeforeLeaving, Quiet, Leaves, Doomed}
@@ -27,28 +27,29 @@ use Rattle.abi_machine.specs.Nested.{HostedTurn, On, EndsIn, TrapsBy, CallsHost,
 use Rattle.abi_machine.specs.Lowering.{started, lowered, paused, left_by, settled_turn, lowers_turn}
 use Rattle.abi_machine.specs.replies.Context.{Exempt, Answers, exempt_of}
 use Rattle.abi_machine.specs.sound.Changes.{HasStore, AddsEntry, HasWord, HasResult, Offers, Transfers as IsTransferred, after, IsFirst}
-use Rattle.abi_machine.specs.sound.Acting.{Outline, outlines_of, WaitsWith, IsActing, OneActs, FollowsFor, LowersFor, BehindFor, stacked_then, stacked_behind}
+use Rattle.abi_machine.specs.sound.Acting.{outlines_of, IsActing, OneActs, FollowsFor, LowersFor, BehindFor, stacked_then, stacked_behind}
 use Rattle.abi_machine.proofs.sound.Due.{channel_is}
+use Rattle.abi_machine.specs.sound.Chain.{IsChained}
 use Rattle.abi_machine.proofs.sound.known.Copying.{BlocksCopying}
-use Rattle.abi_machine.proofs.sound.known.Awaiting.{blocks_copying}
+use Rattle.abi_machine.proofs.sound.known.Awaiting.{over_at_once, blocks_copying}
 use Rattle.abi_machine.proofs.sound.known.Lifting.{elements_keep}
-use Rattle.abi_machine.proofs.sound.Found.{entry_is_added, free_offered}
-use Rattle.abi_machine.proofs.sound.Outlines.{as_is, acting_waits}
+use Rattle.abi_machine.proofs.sound.Found.{entry_is_added}
+use Rattle.abi_machine.proofs.sound.Aside.{channel_kept}
 use Rattle.abi_machine.proofs.sound.acts.Keeping.{is_first, acts_at}
-use Rattle.abi_machine.specs.sound.Owners.{owner_of_canon, IsCanonApart, IsStackOf, CallsOwn, IsHostedBy, HasOwnRealloc, IsBehindOwn}
+use Rattle.abi_machine.specs.sound.Owners.{owner_of_canon, IsCanonApart, IsStackOf, IsHostedBy, HasOwnRealloc, IsBehindOwn}
 use Rattle.abi_machine.proofs.sound.Standing.{steady}
 use Rattle.abi_machine.proofs.sound.own.Moved.{IsOnward}
 use Rattle.abi_machine.proofs.sound.own.Belonging.{found_of, ref_starts, options_realloc, resumed_of, IsTurnOf, hosted_of, onward_address, rewritten_on, canon_apart}
 use Rattle.abi_machine.proofs.sound.own.Tasks.{store_own, mine_is, lifted_by, stack_own}
-use Rattle.abi_machine.proofs.sound.known.Keeping.{CallsItsOwn, IsNewEntry, Walk, Keeps, Held, still, given_keeps, behind_keeps, either_keeps, goes, unless_keeps, charged_keeps, on_keeps, blocked_keeps, acting_stack_keeps, removes, waits, lends, came_keeps}
+use Rattle.abi_machine.proofs.sound.known.Keeping.{CallsItsOwn, IsNewEntry, Walk, Keeps, Held, still, given_keeps, behind_keeps, either_keeps, goes, unless_keeps, charged_keeps, on_keeps, blocked_so, acting_stack_keeps, removes, waits, lends, came_keeps}
 use Rattle.abi_machine.proofs.sound.acts.Nesting.{exempt_leaves, settled_leaves}
 use Rattle.abi_machine.proofs.sound.known.Moving.{finished_keeps}
 
 -- What an entry of a lowering is: no subtask.
-entry_is_new : (g : Graph) (w : World) (t : ℕ) (entry : New) → IsNewEntry g w (entry_of t entry)
-entry_is_new g w t (NewOwn resource rep) = tt
-entry_is_new g w t (NewBorrow resource rep) = tt
-entry_is_new g w t (NewEnd kind number) = tt
+entry_is_new : (g : Graph) (w : World) (i t : ℕ) (entry : New) → IsNewEntry g w i (entry_of t entry)
+entry_is_new g w i t (NewOwn resource rep) = tt
+entry_is_new g w i t (NewBorrow resource rep) = tt
+entry_is_new g w i t (NewEnd kind number) = tt
 
 module _ {g : Graph} {s : Script} (walk : Walk g s) where
   -- Reads and writes.
@@ -67,16 +68,21 @@ module _ {g : Graph} {s : Script} (walk : Walk g s) where
       given_keeps walk (canon_at g (read_of e.side call offer).canon) _ (λ reading i. given_keeps walk (canon_at g (write_of e.side call offer).canon) _ (λ writing j.
       moved_by_keeps t e call (read_of e.side call offer) (write_of e.side call offer) reading writing count element w (λ apart. canon_apart g (read_of e.side call offer).canon reading (walk.graph apart) i) h))
 
-  meeting_keeps : (t : ℕ) (e : EndRef) (call : OpenCopy) (words : List ℕ) (index : ℕ) (c : Channel) (m : Met) (w : World) → may_leave w ≡ true → (end_of w e).copy ≡ None
+  meeting_keeps : (t : ℕ) (e : EndRef) (call : OpenCopy) (words : List ℕ) (index : ℕ) (c : Channel) (m : Met) (w : World) → may_leave w ≡ true → (end_of w e).copy ≡ None → task_by call.by ≡ t
+      → (i : ℕ) → entry_at w i index ≡ Some (OfEnd e) → owner_of_canon g call.canon ≡ Some i → ((payload : ℕ) → m ≡ AtOnce payload → (end_of (offered e call w) e).copy ≡ None)
       → (m ≡ OfferStands → (options_at g call.canon).is_async ≡ false → BlocksCopying g t (InBuiltin call.canon words (ForCopy index)) (offered e call w)) → (walk.Apart → CallsItsOwn g call.canon t w) → Held walk true t w
       → Keeps walk (meeting_turn g t e call words index c m w)
   unfolding meeting_turn
-  meeting_keeps t e call words index c (AtOnce payload) w free quiet copies calls h = on_keeps walk t (payload ∷ []) (offered e call w) (still walk true t (Offers e call) w tt quiet (λ apart. tt) tt h)
-  meeting_keeps t e call words index c (Moves count) w free quiet copies calls h = given_keeps walk (other_offer e.side c.ends.view) _ (λ offer i. elements_moved_keep t e call count _ offer w h)
-  meeting_keeps t e call words index c OfferStands w free quiet copies calls h =
-      let k : Held walk true t (offered e call w) = still walk true t (Offers e call) w tt quiet (λ apart. tt) tt h in
-      either_keeps walk (options_at g call.canon).is_async _ _ (λ i. on_keeps walk t (blocked_word ∷ []) (offered e call w) k)
-      (λ i. blocked_keeps walk t (InBuiltin call.canon words (ForCopy index)) (reason.Copy index) (offered e call w) k.1.0 tt (inl (free_offered e call w free)) tt (λ asks. tt) (λ given. copies refl i) (λ apart. steady (λ (o : Outline). CallsOwn g (func_of o.callee) call.canon) t (Offers e call) w tt (calls apart)) (as_is (IsActing true) (WaitsWith true) t (offered e call w) (acting_waits true) k.1) k.0)
+  meeting_keeps t e call words index c (AtOnce payload) w free quiet of_task i here own over copies calls h =
+      on_keeps walk t (payload ∷ []) (offered e call w) (still walk true t (Offers e call) w tt (quiet, λ joins. inr (over payload refl)) (λ apart. tt) tt h)
+  meeting_keeps t e call words index c (Moves count) w free quiet of_task i here own over copies calls h = given_keeps walk (other_offer e.side c.ends.view) _ (λ offer i. elements_moved_keep t e call count _ offer w h)
+  meeting_keeps t e call words index c OfferStands w free quiet of_task at here own over copies calls h =
+      either_keeps walk (options_at g call.canon).is_async _ _
+      (λ i. on_keeps walk t (blocked_word ∷ []) (offered e call w) (still walk true t (Offers e call) w tt (quiet, λ joins. inl i) (λ apart. tt) tt h))
+      (λ i.
+      blocked_so walk t (InBuiltin call.canon words (ForCopy index)) (reason.Copy index) (offered e call w) (steady (IsActing true) t (Offers e call) w tt h.1).0
+      (channel_kept IsChained (λ v x k. k) (λ v x k. k) e.kind e.number _ w (walk.chained w h.0))
+      (walk.stands t at index e call words w h.1 free quiet of_task i own here (λ given. copies refl i) calls h.0))
 
   pub meets_keeps : (t i : ℕ) (e : EndRef) (call : OpenCopy) (words : List ℕ) (index : ℕ) (w : World) → may_leave w ≡ true → (end_of w e).copy ≡ None → task_by call.by ≡ t → entry_at w i index ≡ Some (OfEnd e)
       → owner_of_canon g call.canon ≡ Some i → (walk.Apart → CallsItsOwn g call.canon t w) → Held walk true t w → Keeps walk (meets g t i e call words index w)
@@ -84,7 +90,7 @@ module _ {g : Graph} {s : Script} (walk : Walk g s) where
   meets_keeps t i e call words index w free quiet of_task here own calls h =
       given_keeps walk (channel_at w e.kind e.number) _ (λ c j.
       unless_keeps walk t (is_within g i e.side c.element c.ends.view) trap.SameInstance w (meeting_turn g t e call words index c (met_by e.kind e.side call c.ends.view) w) (h.0, h.1.0)
-      (λ k. meeting_keeps t e call words index c (met_by e.kind e.side call c.ends.view) w free quiet (λ stands sync. blocks_copying g w t i index words e call c own here (channel_is e.kind e.number w ∙ j) stands of_task sync) calls h))
+      (λ k. meeting_keeps t e call words index c (met_by e.kind e.side call c.ends.view) w free quiet of_task i here own (over_at_once e call c w quiet (channel_is e.kind e.number w ∙ j)) (λ stands sync. blocks_copying g w t i index words e call c own here (channel_is e.kind e.number w ∙ j) stands of_task sync) calls h))
 
   transferring_keeps : (copying : Copying) (w : World) → walk.Holds w → OneActs (IsActing true) (outlines_of w.tasks) w.chain → Keeps walk (transferring_turn copying w)
   unfolding transferring_turn
@@ -187,5 +193,5 @@ module _ {g : Graph} {s : Script} (walk : Walk g s) where
       let on : IsOnward w.store (with_memory l.memory settled.bytes w).store = rewritten_on (found_at w.store.memories l.memory) settled.bytes w.store in
       let k : LowersOn l (with_memory l.memory settled.bytes w) = (still walk (stacked_then l.next) l.blame (HasStore _) w tt tt (λ apart. store_own g w _ on (walk.own apart w h)) tt (h, is_first (IsActing (stacked_then l.next)) w l.blame follows.0 o), follows.1) in
       paused_keeps l settled.paused (left_by l settled w) (λ apart address at. onward_address g w.store (with_memory l.memory settled.bytes w).store l.inst address on (own apart address at))
-      (settled_leaves (LowersOn l) (λ i t entry v few j. (still walk (stacked_then l.next) l.blame (AddsEntry i (entry_of t entry)) v (few, entry_is_added v.tasks t entry) (λ given. entry_is_new g v t entry) (λ apart. tt) tt j.0, j.1)) l.inst l.acts_for plan (bytes_of w.store l.memory)
+      (settled_leaves (LowersOn l) (λ i t entry v few j. (still walk (stacked_then l.next) l.blame (AddsEntry i (entry_of t entry)) v (few, entry_is_added v.tasks t entry) (λ given. entry_is_new g v i t entry) (λ apart. tt) tt j.0, j.1)) l.inst l.acts_for plan (bytes_of w.store l.memory)
       (with_memory l.memory settled.bytes w) k)

@@ -5,11 +5,13 @@ use Rattle.comp_graph.specs.Graph.{Graph}
 use Rattle.abi_machine.specs.World.{OfSubtask, Subtask, ForCall, TaskState, Acting, AfterCall, AfterCancel, InBuiltin, Task, World}
 use Rattle.abi_machine.specs.Edits.{changed_at, in_state}
 use Rattle.abi_machine.specs.Canons.{options_at}
-use Rattle.abi_machine.specs.Reading.{entry_at}
+use Rattle.abi_machine.specs.Reading.{entry_at, runs_in}
 use Rattle.abi_machine.specs.sound.Acting.{Outline}
+use Rattle.abi_machine.specs.sound.Firsts.{TaskIs}
 use Rattle.abi_machine.specs.sound.Called.{Called, HasCalled, HaveCalled, CalledBy}
 use Rattle.abi_machine.specs.sound.Subtasks.{StandsNowhere, CallIs, IsAsync, IsUnawaited, CancelsApart, AreSubtasks}
 use Rattle.abi_machine.proofs.sound.Found.{some_same, changed_kept, changed_there}
+use Rattle.abi_machine.proofs.sound.Acted.{still_is}
 use Rattle.abi_machine.proofs.sound.Chained.{changed_here}
 use Rattle.abi_machine.proofs.sound.Outlines.{outline_back, Is}
 use Rattle.abi_machine.proofs.sound.Calling.{one_waits}
@@ -83,3 +85,16 @@ new_subtask g w t callee number words called h a async =
       behind_call g w t callee number words called a,
       (h.awaited t callee number x.0 x.1 waits).1,
     )
+
+-- It is to stand in the table of the component instance whose function the task runs that called it.
+abbrev pub CallsInside : List Task → ℕ → Subtask → Type 0
+CallsInside tasks i subtask = TaskIs tasks subtask.by (λ x. runs_in i x ≡ true)
+
+pub new_inside : (w : World) (t i callee number : ℕ) (words : List ℕ) → HaveCalled w.tasks → TaskIs w.tasks t (λ x. runs_in i x ≡ true) → Is (IsIn (AfterCall callee number words)) t w
+    → CallIs (in_state t Acting w).tasks callee (CallsInside (in_state t Acting w).tasks i)
+new_inside w t i callee number words called inside a =
+    let x = in_this_state w t (AfterCall callee number words) a in
+    let has : Called w.tasks t number callee = subst (HasCalled w.tasks t) x.2 (called t x.0 x.1) in
+    let now : TaskIs (in_state t Acting w).tasks t (λ y. runs_in i y ≡ true) = still_is w.tasks t t acts_again (λ y. runs_in i y ≡ true) (λ y p. p) inside in
+    calls_acting w.tasks t callee (CallsInside (in_state t Acting w).tasks i)
+    (has.0, has.1, (has.2.0, has.2.1, subst (λ (n : ℕ). TaskIs (in_state t Acting w).tasks n (λ y. runs_in i y ≡ true)) (sym has.2.2) now))

@@ -1,5 +1,5 @@
 -- How tasks enter, call, are told, go on and are cancelled keeps what each change keeps.
-use Rattle.std.proofs.Common.{◌≡◌, ◌⊎◌, inl, inr, ℕ, Bool, true, false, List, [], ◌∷◌, length, refl, sym, subst, Option, Some, None, Result, Ok, Err}
+use Rattle.std.proofs.Common.{◌≡◌, ◌⊎◌, inl, inr, ℕ, Bool, true, false, List, [], ◌∷◌, length, refl, sym, ap, ◌∙◌, subst, Option, Some, None, Result, Ok, Err}
 use Rattle.choices.specs.Drawing.{drawn, drawn_answer}
 use Rattle.std.specs.Prelude.{IsSome, slice_index}
 use Rattle.std.specs.List.{slice_get}
@@ -19,14 +19,14 @@ use Rattle.wasm_store.specs.Step.{start}
 use Rattle.comp_graph.specs.declared.graph.FuncRef.{FuncRef}
 use Rattle.comp_graph.specs.Graph.{Graph, Lifted}
 use Rattle.script_reader.specs.Script.{Script}
-use Rattle.trace_show.specs.declared.label.Label.TheVariants as line
-use Rattle.trace_show.specs.declared.label.BlockReason.TheVariants as reason
-use Rattle.trace_show.specs.declared.trap.TrapName.TheVariants as trap
+use Rattle.trace_labels.specs.declared.label.Label.TheVariants as line
+use Rattle.trace_labels.specs.declared.label.BlockReason.TheVariants as reason
+use Rattle.trace_labels.specs.declared.trap.TrapName.TheVariants as trap
 use Rattle.abi_machine.specs.Control.{EndRef, Receiver, InWait, InCallback, EventCode, Free, Arrives, Back, Goes as GoesOn, Resumes, Delivers}
 use Rattle.abi_machine.specs.World.{Entry, OwnHandle, BorrowHandle, OfSubtask, OfSet, OfEnd, Callee, Subtask, Caller, Nobody, Host, Guest, Wait, ForYield, ForSet, ForCall, ForCopy, ForCancel, TaskState, New as IsNew, Acting, AfterCall, AfterCancel, Begins, WaitsToEnter, InLoop, InBuiltin, Exited, Task, World, new_task}
 use Rattle.abi_machine.specs.Edits.{with_control, chained, entry_added, in_state, with_cancellation, told, concluded}
 use Rattle.abi_machine.specs.Canons.{func_address, memory_of, canon_at, options_of_canon, inst_of_canon, options_at, flag_at}
-use Rattle.abi_machine.specs.Reading.{table_of, entry_at, acting, func_of, task_at, subtask_of, kind_of, is_reentrant, may_leave}
+use Rattle.abi_machine.specs.Reading.{table_of, entry_at, acting, func_of, is_in, runs_in, task_at, subtask_of, kind_of, is_reentrant, may_leave}
 use Rattle.abi_machine.specs.Counting.{task_view, has_resolved, subtask_state, state_of, payload_of, is_waited_for, ready}
 use Rattle.abi_machine.specs.Gate.{is_entry_free, may_arrive}
 use Rattle.abi_machine.specs.Choosing.{picks_of, chosen}
@@ -41,31 +41,32 @@ use Rattle.abi_machine.specs.Copying.{blocked_word}
 use Rattle.abi_machine.specs.sound.Changes.{Change, HasStore, AddsEntry, Calls, ComesBack, Acts, Cancels, IsRemoved, IsCancelled, IsTold, Concludes, after, IsGuest, HasFunc, IsBlocked}
 use Rattle.abi_machine.specs.sound.Acting.{IsNew as IsNewOne, Outline, outline_of, outlines_of, WaitsWith, StandsBy, IsActing, IsCalling, OneActs, stacked_receiver}
 use Rattle.abi_machine.proofs.sound.known.Lifting.{arguments_keep}
-use Rattle.abi_machine.proofs.sound.Found.{guest_changed, func_changed, changed_there, acting_first, acting_is, acting_func}
+use Rattle.abi_machine.proofs.sound.Found.{some_same, guest_changed, func_changed, changed_there, acting_first, acting_is, acting_func}
 use Rattle.abi_machine.proofs.sound.Able.{resumed_blocked, removed_waits}
 use Rattle.abi_machine.proofs.sound.Outlines.{outline_there, Is, as_is, is_there, state_first, acting_waits}
 use Rattle.abi_machine.proofs.sound.Standing.{steady, task_there, first_back, first_asks}
 use Rattle.abi_machine.proofs.sound.acts.Keeping.{IsIn, acts_at, acts_by, new_acts, waits_stacked}
 use Rattle.abi_machine.specs.sound.Owners.{owner_of_func, IsLiftedApart}
-use Rattle.abi_machine.specs.sound.Subtasks.{IsUnawaited}
+use Rattle.abi_machine.specs.sound.Firsts.{TaskIs}
+use Rattle.abi_machine.specs.sound.Subtasks.{CallIs, IsUnawaited}
 use Rattle.abi_machine.specs.sound.Events.{HasReceiver, IsReadyAt, EventComes}
 use Rattle.abi_machine.proofs.sound.own.Belonging.{ref_starts, options_realloc, if_there, rewritten_on}
 use Rattle.abi_machine.proofs.sound.own.Tasks.{after_cancel_own, store_own, IsOfFunc, mine_is, lifted_by, stack_own}
 use Rattle.abi_machine.proofs.sound.known.Handles.{found_subtask_there}
-use Rattle.abi_machine.proofs.sound.known.Unawaited.{standing_unawaited, still_unawaited, behind_call, behind_wait, behind_cancel, IsNewSubtask, new_subtask}
+use Rattle.abi_machine.proofs.sound.known.Unawaited.{standing_unawaited, still_unawaited, behind_call, behind_wait, behind_cancel, IsNewSubtask, new_subtask, CallsInside, new_inside}
 use Rattle.abi_machine.proofs.sound.known.Picking.{answer_there}
 use Rattle.abi_machine.proofs.sound.known.Asked.{TellsWell, CancelsWell, BlocksAsked}
-use Rattle.abi_machine.proofs.sound.known.Asking.{call_told, wait_told, open_told, cancelled_told, blocked_told, member_told, blocks_then}
+use Rattle.abi_machine.proofs.sound.known.Asking.{equal_self, call_told, wait_told, open_told, cancelled_told, blocked_told, member_told, blocks_then}
 use Rattle.abi_machine.proofs.sound.known.Copying.{NoneAwaits}
-use Rattle.abi_machine.proofs.sound.known.Awaiting.{member_alone, again_alone}
+use Rattle.abi_machine.proofs.sound.known.Awaiting.{member_alone, found_there, again_alone}
 use Rattle.abi_machine.proofs.sound.known.Ready.{ready_unwaited}
 use Rattle.abi_machine.proofs.sound.known.Events.{asked_comes, ready_found, first_ready, member_comes, GoesOnFrom, loop_has, loop_ready, set_ready}
-use Rattle.abi_machine.proofs.sound.known.Keeping.{Known, Comings, CallsItsOwn, Walk, Keeps, Held, still, given_keeps, behind_keeps, either_keeps, goes, unless_keeps, chosen_keeps, on_keeps, blocked_keeps, waited_keeps, entry_keeps, acting_stack_keeps, removes, waits, lends, came_keeps}
+use Rattle.abi_machine.proofs.sound.known.Keeping.{WaitsElse, WaitsForNone, acting_waits_else, state_waits_else, called_waits_else, Known, Comings, CallsItsOwn, Walk, Keeps, Held, still, given_keeps, behind_keeps, either_keeps, goes, unless_keeps, chosen_keeps, on_keeps, blocked_keeps, waited_keeps, entry_keeps, acting_stack_keeps, removes, waits, lends, came_keeps}
 
 module _ {g : Graph} {s : Script} (walk : Walk g s) where
   -- the acting task acts again
-  acts_again : (b : Bool) (t : ℕ) (w : World) → Is (WaitsWith b) t w → walk.Holds w → Held walk b t (in_state t Acting w)
-  acts_again b t w a h = (walk.stays (Acts t) w a.0 tt (λ apart. tt) h, state_first (IsActing b) (WaitsWith b) w t Acting (λ o k. (k.0, refl, k.1)) a)
+  acts_again : (b : Bool) (t : ℕ) (w : World) → WaitsForNone t w → Is (WaitsWith b) t w → walk.Holds w → Held walk b t (in_state t Acting w)
+  acts_again b t w none a h = (walk.stays (Acts t) w a.0 (λ joins. none) (λ apart. tt) h, state_first (IsActing b) (WaitsWith b) w t Acting (λ o k. (k.0, refl, k.1)) a)
 
   -- Tasks enter.
 
@@ -79,10 +80,10 @@ module _ {g : Graph} {s : Script} (walk : Walk g s) where
       (arguments_keep (Held walk false t) (removes walk false t) (waits walk false t) (lends walk false t) (inst_of_canon c) t (options_of_canon c).is_async f.func_type _ subtask.words w h)
       (λ v later i. (goes walk _ later i.0, (λ apart. options_realloc g later.store f.instance f.options (walk.own apart later i.0).canons (walk.own apart later i.0).owned (lifted apart).1), ((t, i.1), (i.1.0, tt)))))
 
-  entered_keeps : (t : ℕ) (task : Task) (f : Lifted) (w : World) → (walk.Apart → IsLiftedApart g (Some f)) → Is (WaitsWith false) t w → walk.Holds w → Keeps walk (entered g t task f w)
+  entered_keeps : (t : ℕ) (task : Task) (f : Lifted) (w : World) → (walk.Apart → IsLiftedApart g (Some f)) → WaitsForNone t w → Is (WaitsWith false) t w → walk.Holds w → Keeps walk (entered g t task f w)
   unfolding entered
-  entered_keeps t task f w lifted a h =
-      behind_keeps walk (line.Enter t ∷ []) (arguments_turn g t f task.caller (in_state t Acting w)) (called_keeps t f task.caller (in_state t Acting w) lifted (acts_again false t w a h))
+  entered_keeps t task f w lifted none a h =
+      behind_keeps walk (line.Enter t ∷ []) (arguments_turn g t f task.caller (in_state t Acting w)) (called_keeps t f task.caller (in_state t Acting w) lifted (acts_again false t w none a h))
 
   -- what stands by its state
   stands_so : (t : ℕ) (task : Task) (w : World) → Is (λ o. o ≡ outline_of task) t w → walk.Holds w → StandsBy task.state (outline_of task)
@@ -97,9 +98,10 @@ module _ {g : Graph} {s : Script} (walk : Walk g s) where
   arriving_keeps w h o =
       given_keeps walk (acting w) _ (λ a e. given_keeps walk (func_of a.1.callee) _ (λ f i.
       let n : Is IsNewOne a.0 w = acts_at IsNewOne w a e o in
+      let none : WaitsForNone a.0 w = as_is IsNewOne (λ x. WaitsElse x.state) a.0 w (λ x j. subst WaitsElse (sym j) tt) n in
       let k : Is (WaitsWith false) a.0 w = (n.0, (n.1.0, n.1.1, subst (λ (state : TaskState). StandsBy state n.1.0) n.1.2 (walk.stacked w h a.0 n.1.0 n.1.1))) in
-      either_keeps walk (may_arrive w f.instance a.1) (entered g a.0 a.1 f w) (blocked a.0 WaitsToEnter reason.Entry w) (λ j. entered_keeps a.0 a.1 f w (λ apart. lifted_by g w a.0 f (walk.own apart w h) (mine_is w a f e i)) k h)
-      (λ j. blocked_keeps walk a.0 WaitsToEnter reason.Entry w (acting_first w a e) tt (inr (acting_func w a f e i)) tt (λ asks. tt) (λ copies. tt) (λ apart. tt) k h)))
+      either_keeps walk (may_arrive w f.instance a.1) (entered g a.0 a.1 f w) (blocked a.0 WaitsToEnter reason.Entry w) (λ j. entered_keeps a.0 a.1 f w (λ apart. lifted_by g w a.0 f (walk.own apart w h) (mine_is w a f e i)) none k h)
+      (λ j. blocked_keeps walk a.0 WaitsToEnter reason.Entry w (acting_first w a e) tt (inr (acting_func w a f e i)) tt (λ asks. tt) (λ copies. tt) (λ apart. tt) none tt k h)))
 
   -- Tasks call and are told.
 
@@ -109,7 +111,7 @@ module _ {g : Graph} {s : Script} (walk : Walk g s) where
   call_keeps t number words callee f passed w runs known free own h =
       unless_keeps walk t (is_reentrant w f.instance t) trap.Reentrant w _ (h.0, h.1.0) (λ e.
       let c : Change = Calls number callee (called_by t number passed) words in (
-        goes walk Arrives (after c w) (walk.stays c w (subst (λ (o : Option Lifted). IsSome o) (sym runs) refl, is_there (IsActing true) t w h.1, h.1.0, free) (refl, as_is (IsActing true) (WaitsWith true) t w (acting_waits true) h.1, known, refl) own h.0),
+        goes walk Arrives (after c w) (walk.stays c w (subst (λ (o : Option Lifted). IsSome o) (sym runs) refl, is_there (IsActing true) t w h.1, h.1.0, free) (refl, as_is (IsActing true) (WaitsWith true) t w (acting_waits true) h.1, known, refl, (λ l k. subst (λ (x : Lifted). is_reentrant w x.instance t ≡ false) (some_same (sym runs ∙ k)) e), acting_waits_else true t w h.1) own h.0),
         tt,
         new_acts (in_state t (AfterCall (length w.tasks) number words) w).tasks w.chain (new_task callee (Guest (called_by t number passed)) IsNew) refl,
       ))
@@ -124,29 +126,30 @@ module _ {g : Graph} {s : Script} (walk : Walk g s) where
 
   -- a task is back from a call
   open_keeps : (t i callee : ℕ) (task : Task) (is_async : Bool) (number : ℕ) (words : List ℕ) (w : World) → (options_at g number).is_async ≡ is_async → Known walk w → IsGuest (in_state t Acting w).tasks callee
-      → has_resolved task ≡ false → HasFunc w.tasks t → Is (IsIn (AfterCall callee number words)) t w → walk.Holds w → Held walk true t (in_state t Acting w) → Keeps walk (call_open t i callee task is_async number words (in_state t Acting w))
+      → has_resolved task ≡ false → HasFunc w.tasks t → TaskIs w.tasks t (λ x. runs_in i x ≡ true) → Is (IsIn (AfterCall callee number words)) t w → walk.Holds w → Held walk true t (in_state t Acting w) → Keeps walk (call_open t i callee task is_async number words (in_state t Acting w))
   unfolding call_open
-  open_keeps t i callee task true number words w async facts guest unresolved runs a h k =
+  open_keeps t i callee task true number words w async facts guest unresolved runs inside a h k =
       let v : World = in_state t Acting w in
       let new : walk.Given → IsNewSubtask g v callee = λ given. new_subtask g w t callee number words (facts.0 given).called (facts.0 given).subtasks a async in
+      let here : walk.Given → CallIs v.tasks callee (CallsInside v.tasks i) = λ given. new_inside w t i callee number words (facts.0 given).called inside a in
       entry_keeps walk t i (OfSubtask callee) v (λ index u. replied t (call_state task index ∷ []) (told callee (subtask_state task) u)) (k.0, k.1.0) (λ few.
       on_keeps walk t (call_state task (next_index (table_of v i)) ∷ []) (told callee (subtask_state task) (entry_added i (OfSubtask callee) v))
       (still walk true t (IsTold callee (subtask_state task)) (entry_added i (OfSubtask callee) v) tt ((λ given. (new given).1), (λ asks. inr (unresolved, open_told g w t callee number words (facts.1 asks).subtasks a))) (λ apart. tt) tt
-      (still walk true t (AddsEntry i (OfSubtask callee)) v (few, guest) new (λ apart. tt) tt k)))
-  open_keeps t i callee task false number words w sync facts guest unresolved runs a h k = waited_keeps walk t callee number words (reason.Call callee) w a sync runs h
+      (still walk true t (AddsEntry i (OfSubtask callee)) v (few, guest) (λ given. ((new given).0, (new given).1, (new given).2, here given)) (λ apart. tt) tt k)))
+  open_keeps t i callee task false number words w sync facts guest unresolved runs inside a h k = waited_keeps walk t callee number words (reason.Call callee) w a sync runs h
 
-  back_call_keeps : (t i callee number : ℕ) (words : List ℕ) (w : World) → Known walk w → HasFunc w.tasks t → Is (IsIn (AfterCall callee number words)) t w → walk.Holds w
+  back_call_keeps : (t i callee number : ℕ) (words : List ℕ) (w : World) → Known walk w → HasFunc w.tasks t → TaskIs w.tasks t (λ x. runs_in i x ≡ true) → Is (IsIn (AfterCall callee number words)) t w → walk.Holds w
       → Keeps walk (back_from_call g t i callee number words w)
   unfolding back_from_call call_resolved
-  back_call_keeps t i callee number words w facts runs a h =
-      let k : Held walk true t (in_state t Acting w) = acts_again true t w (waits_stacked w t callee number words a (walk.stacked w h)) h in
+  back_call_keeps t i callee number words w facts runs inside a h =
+      let k : Held walk true t (in_state t Acting w) = acts_again true t w (called_waits_else w t callee number words a) (waits_stacked w t callee number words a (walk.stacked w h)) h in
       with_keeps w callee _ (λ task subtask there guest.
       either_keeps walk (has_resolved task) _ _
       (λ e. on_keeps walk t (call_answer (options_at g number).is_async subtask.result) (told callee (subtask_state task) (in_state t Acting w))
       (subtask_keeps true t i callee task subtask (in_state t Acting w) (λ given. behind_call g w t callee number words (facts.0 given).called a)
       (λ asks. call_told g w t callee number words (subtask_state task) (facts.1 asks).subtasks a) k))
       (λ e. open_keeps t i callee task (options_at g number).is_async number words w refl facts
-      (guest_changed w.tasks t callee (λ task. record task { state = Acting }) (λ x k. k) (task, there, subst (λ (o : Option Subtask). IsSome o) (sym guest) refl)) e runs a h k))
+      (guest_changed w.tasks t callee (λ task. record task { state = Acting }) (λ x k. k) (task, there, subst (λ (o : Option Subtask). IsSome o) (sym guest) refl)) e runs inside a h k))
 
   -- Events are delivered.
 
@@ -248,11 +251,7 @@ module _ {g : Graph} {s : Script} (walk : Walk g s) where
   abbrev IsReadyFor : Lifted → Bool → Wait → World → Type 0
   IsReadyFor f is_cancelled wait w = (index : ℕ) → is_cancelled ≡ false → wait ≡ ForSet index → is_some_ready w f.instance index ≡ true
 
-  -- and no other task waits for the copy for which it did
-  abbrev IsAlone : Lifted → Wait → World → Type 0
-  IsAlone f wait w = (index : ℕ) (e : EndRef) → wait ≡ ForCopy index → found_end w f.instance index ≡ Some e → walk.Copies → NoneAwaits w e
-
-  wait_keeps : (t : ℕ) (f : Lifted) (is_cancelled : Bool) (number : ℕ) (words : List ℕ) (wait : Wait) (w : World) → (walk.Event → IsReadyFor f is_cancelled wait w) → AreUnawaited wait w → AreToldWell f wait w → IsAlone f wait w → Is (IsOfFunc f) t w → Held walk true t w
+  wait_keeps : (t : ℕ) (f : Lifted) (is_cancelled : Bool) (number : ℕ) (words : List ℕ) (wait : Wait) (w : World) → (walk.Event → IsReadyFor f is_cancelled wait w) → AreUnawaited wait w → AreToldWell f wait w → WaitsElse (InBuiltin number words wait) → Is (IsOfFunc f) t w → Held walk true t w
       → Keeps walk (wait_resumed g t f is_cancelled number words wait w)
   unfolding wait_resumed told_payload told_result
   wait_keeps t f is_cancelled number words ForYield w some alone well none mine h = either_keeps walk is_cancelled _ _ (λ e. yielded_keeps t w h) (λ e. on_keeps walk t (0 ∷ []) w h)
@@ -267,8 +266,7 @@ module _ {g : Graph} {s : Script} (walk : Walk g s) where
       on_keeps walk t (state_of task ∷ []) (told callee (subtask_state task) w)
       (subtask_keeps true t f.instance callee task subtask w (alone callee (inr (f.instance, index, found_subtask_there w f.instance index callee e)))
       (well callee (subtask_state task) (inr (index, refl, found_subtask_there w f.instance index callee e))) h)))
-  wait_keeps t f is_cancelled number words (ForCopy index) w some alone well none mine h =
-      given_keeps walk (found_end w f.instance index) _ (λ e i. on_keeps walk t (payload_of w e ∷ []) (concluded e w) (end_told_keeps true t e w (λ copies. none index e refl i copies) h))
+  wait_keeps t f is_cancelled number words (ForCopy index) w some alone well none mine h = absurd none
 
   polled_keeps : (t : ℕ) (f : Lifted) (set : ℕ) (members : List ℕ) (w : World) → members ≡ ready w f.instance set → (walk.Event → HasReceiver InCallback f) → Is (IsOfFunc f) t w → Held walk false t w → Keeps walk (set_polled g t f set members w)
   unfolding set_polled
@@ -303,23 +301,41 @@ module _ {g : Graph} {s : Script} (walk : Walk g s) where
   told_again t number words f wait w facts a mine callee state (inr at) asks =
       blocked_told w t at.0 callee number words f state (facts.1 asks).cancels (subst (λ (x : Wait). Is (IsIn (InBuiltin number words x)) t w) at.1 a) mine at.2
 
-  alone_again : (t number : ℕ) (words : List ℕ) (f : Lifted) (wait : Wait) (w : World) → Known walk w → Is (IsIn (InBuiltin number words wait)) t w → Is (IsOfFunc f) t w → IsAlone f wait (in_state t Acting w)
-  alone_again t number words f wait w facts a mine index e same found copies =
-      again_alone g w t number words index f e (facts.2 copies) (subst (λ (x : Wait). Is (IsIn (InBuiltin number words x)) t w) same a) mine found
+  waited_again : (t : ℕ) (task : Task) (f : Lifted) (number : ℕ) (words : List ℕ) (wait : Wait) (w : World) → WaitsElse (InBuiltin number words wait) → Known walk w → (walk.Event → GoesOnFrom g w t task f (InBuiltin number words wait))
+      → Is (IsOfFunc f) t w → Is (IsIn (InBuiltin number words wait)) t w → Is (WaitsWith true) t w → walk.Holds w
+      → Keeps walk (wait_resumed g t f (is_to_be_told g number wait task w f.instance) number words wait (in_state t Acting w))
+  waited_again t task f number words wait w none facts cause mine c a h =
+      wait_keeps t f (is_to_be_told g number wait task w f.instance) number words wait (in_state t Acting w) (λ event index untold same. set_ready g w t task f number words wait index (cause event) untold same)
+      (unawaited_again t number words wait w facts c) (told_again t number words f wait w facts c mine) none (state_first (IsOfFunc f) (IsOfFunc f) w t Acting (λ o k. k) mine)
+      (acts_again true t w (state_waits_else (InBuiltin number words wait) t w none c) a h)
+
+  -- The copy is told for which it waited, and no other task waits for it.
+  copied_again : (t : ℕ) (f : Lifted) (is_cancelled : Bool) (number : ℕ) (words : List ℕ) (index : ℕ) (w : World) → Known walk w → Is (IsOfFunc f) t w → Is (IsIn (InBuiltin number words (ForCopy index))) t w → Is (WaitsWith true) t w
+      → walk.Holds w → Keeps walk (wait_resumed g t f is_cancelled number words (ForCopy index) (in_state t Acting w))
+  unfolding wait_resumed told_payload
+  copied_again t f is_cancelled number words index w facts mine c a h =
+      let v : World = in_state t Acting w in
+      given_keeps walk (found_end v f.instance index) _ (λ e i.
+      on_keeps walk t (payload_of v e ∷ []) (concluded e v) (
+        walk.wakes t number index words f e w c mine (found_there v f.instance index e i) (λ copies. again_alone g w t number words index f e (facts.2 copies) c mine i) h,
+        steady (IsActing true) t (Concludes e) v tt (state_first (IsActing true) (WaitsWith true) w t Acting (λ o k. (k.0, refl, k.1)) a),
+      ))
 
   resumed_keeps : (t : ℕ) (task : Task) (f : Lifted) (state : TaskState) (w : World) → Known walk w → (walk.Event → GoesOnFrom g w t task f state) → Is (IsOfFunc f) t w → Is (IsIn state) t w → Is (StandsBy state) t w → walk.Holds w
       → Keeps walk (resumed g t task f state w)
   unfolding resumed loop_resumed
-  resumed_keeps t task f WaitsToEnter w facts cause mine c a h = entered_keeps t task f w (λ apart. lifted_by g w t f (walk.own apart w h) mine) a h
+  resumed_keeps t task f WaitsToEnter w facts cause mine c a h = entered_keeps t task f w (λ apart. lifted_by g w t f (walk.own apart w h) mine) (state_waits_else WaitsToEnter t w tt c) a h
   resumed_keeps t task f (InLoop word) w facts cause mine c a h =
-      let i : Held walk false t (in_state t Acting w) = acts_again false t w a h in
+      let i : Held walk false t (in_state t Acting w) = acts_again false t w (state_waits_else (InLoop word) t w tt c) a h in
       let now : Is (IsOfFunc f) t (in_state t Acting w) = state_first (IsOfFunc f) (IsOfFunc f) w t Acting (λ o k. k) mine in
       either_keeps walk (is_asked task.cancellation) _ _ (λ e. cancel_keeps t f InCallback (in_state t Acting w) now i)
       (λ e. loop_keeps t f (callback_of word) (in_state t Acting w) (λ event index says. loop_ready g w t task f word index (cause event) e says) (λ event. loop_has g w t task f word (cause event)) now i)
-  resumed_keeps t task f (InBuiltin number words wait) w facts cause mine c a h =
-      wait_keeps t f (is_to_be_told g number wait task w f.instance) number words wait (in_state t Acting w) (λ event index untold same. set_ready g w t task f number words wait index (cause event) untold same)
-      (unawaited_again t number words wait w facts c) (told_again t number words f wait w facts c mine) (alone_again t number words f wait w facts c mine)
-      (state_first (IsOfFunc f) (IsOfFunc f) w t Acting (λ o k. k) mine) (acts_again true t w a h)
+  resumed_keeps t task f (InBuiltin number words ForYield) w facts cause mine c a h = waited_again t task f number words ForYield w tt facts cause mine c a h
+  resumed_keeps t task f (InBuiltin number words (ForSet index)) w facts cause mine c a h = waited_again t task f number words (ForSet index) w tt facts cause mine c a h
+  resumed_keeps t task f (InBuiltin number words (ForCall callee)) w facts cause mine c a h = waited_again t task f number words (ForCall callee) w tt facts cause mine c a h
+  resumed_keeps t task f (InBuiltin number words (ForCancel index)) w facts cause mine c a h = waited_again t task f number words (ForCancel index) w tt facts cause mine c a h
+  resumed_keeps t task f (InBuiltin number words (ForCopy index)) w facts cause mine c a h =
+      copied_again t f (is_to_be_told g number (ForCopy index) task w f.instance) number words index w facts mine c a h
   resumed_keeps t task f IsNew w facts cause mine c a h = tt
   resumed_keeps t task f Acting w facts cause mine c a h = tt
   resumed_keeps t task f (AfterCall callee number words) w facts cause mine c a h = tt
@@ -395,7 +411,7 @@ module _ {g : Graph} {s : Script} (walk : Walk g s) where
   cancel_open_keeps : (t number : ℕ) (words : List ℕ) (w : World) → (walk.Asks → BlocksAsked t (InBuiltin number words (ForCancel (first_of words))) w) → (walk.Apart → CallsItsOwn g number t w) → HasFunc w.tasks t → Held walk true t w → Keeps walk (cancel_open g t number words w)
   unfolding cancel_open
   cancel_open_keeps t number words w blocks calls runs h = either_keeps walk (flag_at g number) _ _ (λ e. on_keeps walk t (blocked_word ∷ []) w h)
-      (λ e. blocked_keeps walk t (InBuiltin number words (ForCancel (first_of words))) (reason.Cancel (first_of words)) w h.1.0 tt (inr runs) tt blocks (λ copies. tt) calls (as_is (IsActing true) (WaitsWith true) t w (acting_waits true) h.1) h.0)
+      (λ e. blocked_keeps walk t (InBuiltin number words (ForCancel (first_of words))) (reason.Cancel (first_of words)) w h.1.0 tt (inr runs) tt blocks (λ copies. tt) calls (acting_waits_else true t w h.1) tt (as_is (IsActing true) (WaitsWith true) t w (acting_waits true) h.1) h.0)
 
   back_cancel_keeps : (t i callee number : ℕ) (words : List ℕ) (w : World) → (walk.Given → IsUnawaited w.tasks callee) → (walk.Asks → (state : SubtaskState) → is_over state ≡ true → TellsWell w callee state)
       → ((task : Task) (subtask : Subtask) → slice_get w.tasks callee ≡ Some task → subtask_of task.caller ≡ Some subtask → has_resolved task ≡ false → walk.Asks → BlocksAsked t (InBuiltin number words (ForCancel (first_of words))) w)
@@ -406,24 +422,25 @@ module _ {g : Graph} {s : Script} (walk : Walk g s) where
       either_keeps walk (has_resolved task) _ _ (λ e. on_keeps walk t (state_of task ∷ []) (told callee (subtask_state task) w) (subtask_keeps true t i callee task subtask w alone (λ asks. well asks (subtask_state task) e) h))
       (λ e. cancel_open_keeps t number words w (blocks task subtask there guest e) calls runs h))
 
-  back_to_keeps : (t i : ℕ) (state : TaskState) (w : World) → Known walk w → Is (IsIn state) t w → HasFunc w.tasks t → walk.Holds w → Keeps walk (back_to g t i state w)
+  back_to_keeps : (t i : ℕ) (state : TaskState) (w : World) → Known walk w → Is (IsIn state) t w → HasFunc w.tasks t → TaskIs w.tasks t (λ x. runs_in i x ≡ true) → walk.Holds w → Keeps walk (back_to g t i state w)
   unfolding back_to
-  back_to_keeps t i (AfterCall callee number words) w facts a runs h = back_call_keeps t i callee number words w facts runs a h
-  back_to_keeps t i (AfterCancel callee number words) w facts a runs h =
+  back_to_keeps t i (AfterCall callee number words) w facts a runs inside h = back_call_keeps t i callee number words w facts runs inside a h
+  back_to_keeps t i (AfterCancel callee number words) w facts a runs inside h =
       back_cancel_keeps t i callee number words (in_state t Acting w) (λ given. behind_cancel g w t callee number words (facts.0 given).subtasks a)
       (λ asks state over. cancelled_told w t callee number words state (facts.1 asks).cancels a over) (λ task subtask there guest unresolved asks. blocks_then g w t callee number words task subtask (facts.1 asks) a there guest unresolved)
       (λ apart. after_cancel_own g w t callee number words (walk.own apart w h) a) (func_changed w.tasks t t (λ x. record x { state = Acting }) (λ x. refl) runs)
-      (acts_again true t w (a.0, (a.1.0, a.1.1, subst (λ (state : TaskState). StandsBy state a.1.0) a.1.2 (walk.stacked w h t a.1.0 a.1.1))) h)
-  back_to_keeps t i IsNew w facts a runs h = tt
-  back_to_keeps t i Acting w facts a runs h = tt
-  back_to_keeps t i (Begins n) w facts a runs h = tt
-  back_to_keeps t i WaitsToEnter w facts a runs h = tt
-  back_to_keeps t i (InLoop word) w facts a runs h = tt
-  back_to_keeps t i (InBuiltin number words wait) w facts a runs h = tt
-  back_to_keeps t i Exited w facts a runs h = tt
+      (acts_again true t w (state_waits_else (AfterCancel callee number words) t w tt a) (a.0, (a.1.0, a.1.1, subst (λ (state : TaskState). StandsBy state a.1.0) a.1.2 (walk.stacked w h t a.1.0 a.1.1))) h)
+  back_to_keeps t i IsNew w facts a runs inside h = tt
+  back_to_keeps t i Acting w facts a runs inside h = tt
+  back_to_keeps t i (Begins n) w facts a runs inside h = tt
+  back_to_keeps t i WaitsToEnter w facts a runs inside h = tt
+  back_to_keeps t i (InLoop word) w facts a runs inside h = tt
+  back_to_keeps t i (InBuiltin number words wait) w facts a runs inside h = tt
+  back_to_keeps t i Exited w facts a runs inside h = tt
 
   pub back_keeps : (w : World) → Known walk w → walk.Holds w → Keeps walk (back_turn g w)
   unfolding back_turn
   back_keeps w facts h =
       given_keeps walk (acting w) _ (λ a e. given_keeps walk (func_of a.1.callee) _ (λ f i.
-      back_to_keeps a.0 f.instance a.1.state w facts (acting_first w a e, (outline_of a.1, outline_there w.tasks a.0 a.1 (acting_is w a e), refl)) (acting_func w a f e i) h))
+      back_to_keeps a.0 f.instance a.1.state w facts (acting_first w a e, (outline_of a.1, outline_there w.tasks a.0 a.1 (acting_is w a e), refl)) (acting_func w a f e i)
+      (a.1, acting_is w a e, ap (is_in f.instance) i ∙ equal_self f.instance) h))

@@ -47,9 +47,9 @@ use Rattle.comp_graph.specs.declared.graph.EndOp.{EndOp}
 use Rattle.comp_graph.specs.declared.graph.EndOp.TheVariants as end_op
 use Rattle.comp_graph.specs.Needs.{flat_param_limit}
 use Rattle.comp_graph.specs.Graph.{Graph, Lifted}
-use Rattle.trace_show.specs.declared.label.Label.TheVariants as line
-use Rattle.trace_show.specs.declared.trap.TrapName.{TrapName}
-use Rattle.trace_show.specs.declared.trap.TrapName.TheVariants as trap
+use Rattle.trace_labels.specs.declared.label.Label.TheVariants as line
+use Rattle.trace_labels.specs.declared.trap.TrapName.{TrapName}
+use Rattle.trace_labels.specs.declared.trap.TrapName.TheVariants as trap
 use Rattle.abi_machine.specs.Traps.{task_name, renamed, refusal_name, set_name}
 use Rattle.abi_machine.specs.Control.{EndRef, Replies, InWait, Control, Back}
 use Rattle.abi_machine.specs.World.{Entry, OwnHandle, BorrowHandle, OfSubtask, OfSet, OfEnd, Func, Destroys, Subtask, Caller, Nobody, TaskState, New, Acting, AfterCall, AfterCancel, Begins, WaitsToEnter, InLoop, InBuiltin, Exited, Channel, Task, World}

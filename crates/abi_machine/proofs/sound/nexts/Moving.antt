@@ -27,10 +27,10 @@ use Rattle.comp_graph.specs.declared.graph.CanonFunc.{CanonFunc}
 use Rattle.comp_graph.specs.Needs.{flat_result_limit}
 use Rattle.comp_graph.specs.Graph.{CoreMake, Graph, Lifted}
 use Rattle.script_reader.specs.Script.{Script}
-use Rattle.trace_show.specs.declared.label.Label.TheVariants as line
-use Rattle.trace_show.specs.declared.typed.TypedValue.{TypedValue}
-use Rattle.trace_show.specs.declared.trap.TrapName.{TrapName}
-use Rattle.trace_show.specs.declared.trap.TrapName.TheVariants as trap
+use Rattle.trace_labels.specs.declared.label.Label.TheVariants as line
+use Rattle.trace_labels.specs.declared.typed.TypedValue.{TypedValue}
+use Rattle.trace_labels.specs.declared.trap.TrapName.{TrapName}
+use Rattle.trace_labels.specs.declared.trap.TrapName.TheVariants as trap
 use Rattle.abi_machine.specs.Traps.{task_name, core_name}
 use Rattle.abi_machine.specs.LoweringOver.{Plan}
 use Rattle.abi_machine.specs.Control.{After, Replies, Finishes, Then, Starts, Resolves, Transfers, Copying, Lowering, HostedState, Going, AtCall, Nested, Behind, InLowering, BeforeLeaving, Leaves}

@@ -14,8 +14,8 @@ use Rattle.tasks.specs.Tasks.{is_asked}
 use Rattle.entry_gate.specs.declared.kind.Kind.TheVariants.{Callback}
 use Rattle.comp_graph.specs.Graph.{Graph, Lifted}
 use Rattle.script_reader.specs.Script.{Script}
-use Rattle.trace_show.specs.declared.label.Label.TheVariants as line
-use Rattle.trace_show.specs.declared.label.BlockReason.TheVariants as reason
+use Rattle.trace_labels.specs.declared.label.Label.TheVariants as line
+use Rattle.trace_labels.specs.declared.label.BlockReason.TheVariants as reason
 use Rattle.abi_machine.specs.Control.{EndRef, EventCode, SubtaskEvent, Receiver, InWait, InCallback, Delivers}
 use Rattle.abi_machine.specs.World.{Entry, OwnHandle, BorrowHandle, OfSubtask, OfSet, OfEnd, Inst, Callee, Subtask, Caller, Nobody, Host, Guest, Wait, ForYield, ForSet, ForCall, ForCopy, ForCancel, TaskState, New as IsNew, Acting, AfterCall, AfterCancel, Begins, WaitsToEnter, InLoop, InBuiltin, Exited, Task, World}
 use Rattle.abi_machine.specs.Edits.{changed_at, in_state, told}

@@ -3,9 +3,9 @@ use Rattle.std.proofs.Common.{List, [], ◌∷◌, Option}
 use Rattle.ca_types.specs.declared.types.ValType.{ValType}
 use Rattle.ca_types.specs.declared.value.Value.{Value}
 use Rattle.script_reader.specs.Script.{AreOfTypes}
-use Rattle.canonical_machine.specs.Values.{InRange, AllInRange, none_in, more_in}
-use Rattle.canonical_machine.specs.Values as canonical
-use Rattle.canonical_machine.proofs.Fitted.{fitted}
+use Rattle.lowering_laws.specs.Values.{InRange, AllInRange, none_in, more_in}
+use Rattle.lowering_laws.specs.Values as canonical
+use Rattle.lowering_laws.proofs.Fitted.{fitted}
 use Rattle.abi_machine.specs.sound.Values.{IsOf, AllAre, EachIs, PayloadIs, bool_is, s8_is, u8_is, s16_is, u16_is, s32_is, u32_is, s64_is, u64_is, char_is, own_is, borrow_is, stream_is, future_is, string_is, list_is, record_is, tuple_is, flags_are, case_is, enum_is, none_is, some_is, ok_is, err_is, none_are, more_are, no_types, more_types, no_payload_is, payload_is}
 
 mutual

@@ -4,7 +4,7 @@ use Rattle.ca_types.specs.declared.core_type.CoreType.{CoreType}
 use Rattle.ca_types.specs.Flat.{flat, returned}
 use Rattle.wasm_numbers.specs.Types.{AreWords}
 use Rattle.comp_graph.specs.Needs.{core_val}
-use Rattle.canonical_machine.proofs.Bytes.{each_byte}
+use Rattle.lowering_laws.proofs.Bytes.{each_byte}
 use Rattle.abi_machine.specs.World.{World}
 use Rattle.abi_machine.specs.Lifting.{Came}
 use Rattle.abi_machine.specs.sound.Planned.{HaveReps}

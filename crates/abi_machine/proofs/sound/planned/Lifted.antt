@@ -18,8 +18,8 @@ use Rattle.stream_ends.specs.declared.side.Side.TheVariants.{Reader, Writer}
 use Rattle.value_lift.specs.declared.trap.LiftTrap.{LiftTrap}
 use Rattle.value_lift.specs.Answers.{counted}
 use Rattle.comp_graph.specs.declared.graph.Options.{Options}
-use Rattle.canonical_machine.specs.Kept.{HasBytesAlone}
-use Rattle.canonical_machine.proofs.Bytes.{each_byte}
+use Rattle.lowering_laws.specs.StoreBytes.{HasBytesAlone}
+use Rattle.lowering_laws.proofs.Bytes.{each_byte}
 use Rattle.abi_machine.specs.LiftingOver.{Use, What, AnOwn, ABorrow, AnEnd}
 use Rattle.abi_machine.specs.LiftingOver as over
 use Rattle.abi_machine.specs.Control.{EndRef}

@@ -11,7 +11,7 @@ use Rattle.value_lower.specs.Lowering.{bits_of}
 use Rattle.value_lift.specs.Bytes.{number, bytes_at, width_of, flags_from}
 use Rattle.value_lift.specs.Pieces.{flags_of}
 use Rattle.value_lift.specs.Lifting.{low}
-use Rattle.canonical_machine.proofs.Memories.{byte_of}
+use Rattle.lowering_laws.proofs.Memories.{byte_of}
 use Rattle.abi_machine.specs.sound.Values.{IsOf, flags_are}
 
 -- a memory of bytes, by their places

@@ -19,9 +19,9 @@ use Rattle.value_lower.specs.Following.{written}
 use Rattle.handle_table.specs.History.{Event, Add, IsHistory, live_count, most_live, next_index}
 use Rattle.comp_graph.specs.declared.graph.Options.{Options}
 use Rattle.comp_graph.specs.Needs.{core_val, core_func, lift_type, flat_param_limit, flat_result_limit}
-use Rattle.canonical_machine.specs.Values.{AreBytes}
-use Rattle.canonical_machine.proofs.Memories.{length_written}
-use Rattle.canonical_machine.proofs.Bytes.{between}
+use Rattle.lowering_laws.specs.Values.{AreBytes}
+use Rattle.lowering_laws.proofs.Memories.{length_written}
+use Rattle.lowering_laws.proofs.Bytes.{between}
 use Rattle.abi_machine.specs.LoweringOver.{New, NewOwn, NewBorrow, NewEnd, Plan, Gives, Fails, Asks, Size, Put, Adds, stored, flat_lowered, placed}
 use Rattle.abi_machine.specs.World.{Entry}
 use Rattle.abi_machine.specs.Pausing.{with_index, entries_by, entry_of, has_room, Settled, settle}

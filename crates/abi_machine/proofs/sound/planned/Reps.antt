@@ -7,8 +7,8 @@ use Rattle.wasm_memory.specs.Memories.{MemoryState}
 use Rattle.wasm_store.specs.Store.{Store}
 use Rattle.wasm_store.proofs.Lists.{all_at}
 use Rattle.handle_table.specs.History.{Event, Add, Remove, live}
-use Rattle.canonical_machine.specs.Values.{AreBytes}
-use Rattle.canonical_machine.specs.Kept.{HasBytesAlone}
+use Rattle.lowering_laws.specs.Values.{AreBytes}
+use Rattle.lowering_laws.specs.StoreBytes.{HasBytesAlone}
 use Rattle.abi_machine.specs.World.{Entry, Inst}
 use Rattle.abi_machine.specs.Edits.{changed_at}
 use Rattle.abi_machine.specs.Canons.{bytes_of_memory, bytes_of}

@@ -29,10 +29,10 @@ use Rattle.value_lift.proofs.Forms.{IsRow, HasCases}
 use Rattle.value_lift.proofs.Rooms.{row_room, end_up, tagged_is, case_room, tag_bytes, flag_bytes}
 use Rattle.value_lift.proofs.Stood.{parts_of_record, parts_of_tuple, case_part}
 use Rattle.value_lift.proofs.Views.{out_bool, out_s8, out_u8, out_s16, out_u16, out_s32, out_u32, out_s64, out_u64, out_char, out_own, out_borrow, out_stream, out_future, out_string, out_flags, out_list, out_record, out_tuple, out_variant, out_enum, out_option, out_result}
-use Rattle.canonical_machine.specs.Values.{AreBytes}
+use Rattle.lowering_laws.specs.Values.{AreBytes}
 use Rattle.abi_machine.specs.sound.Values.{IsOf, AllAre, EachIs, PayloadIs, bool_is, s8_is, u8_is, s16_is, u16_is, s32_is, u32_is, s64_is, u64_is, char_is, own_is, borrow_is, stream_is, future_is, string_is, list_is, record_is, tuple_is, flags_are, case_is, enum_is, none_is, some_is, ok_is, err_is, none_are, more_are, no_types, more_types, no_payload_is, payload_is}
-use Rattle.canonical_machine.proofs.Bytes.{le_bytes}
-use Rattle.canonical_machine.proofs.Aligns.{align_low}
+use Rattle.lowering_laws.proofs.Bytes.{le_bytes}
+use Rattle.lowering_laws.proofs.Aligns.{align_low}
 use Rattle.wasm_store.proofs.Lists.{all_append}
 use Rattle.abi_machine.specs.LoweringOver.{New, NewOwn, NewBorrow, NewEnd, Bounds, Misaligned, Plan, Gives, Fails, Asks, Size, Put, Adds, Lowered}
 use Rattle.abi_machine.specs.LoweringOver as over

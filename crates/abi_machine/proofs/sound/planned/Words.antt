@@ -28,10 +28,10 @@ use Rattle.value_lift.proofs.Stood.{parts_of_record, parts_of_tuple, case_part}
 use Rattle.value_lift.proofs.WordStood.{flat_of_record, flat_of_tuple, flat_of_stream, flat_of_future}
 use Rattle.value_lift.proofs.Views.{out_bool, out_s8, out_u8, out_s16, out_u16, out_s32, out_u32, out_s64, out_u64, out_char, out_own, out_borrow, out_string, out_flags, out_list, out_variant, out_enum, out_option, out_result}
 use Rattle.abi_machine.specs.sound.Values.{IsOf, AllAre, EachIs, PayloadIs, bool_is, s8_is, u8_is, s16_is, u16_is, s32_is, u32_is, s64_is, u64_is, char_is, own_is, borrow_is, stream_is, future_is, string_is, list_is, record_is, tuple_is, flags_are, case_is, enum_is, none_is, some_is, ok_is, err_is, no_types, more_types, no_payload_is, payload_is}
-use Rattle.canonical_machine.proofs.Aligns.{align_low}
-use Rattle.canonical_machine.proofs.Numbers.{scalar_low, unsigned_below}
-use Rattle.canonical_machine.proofs.LoweredWords.{are_append, word_8, word_16}
-use Rattle.canonical_machine.proofs.WordsByKind.{types_of, one_32, one_64, two_32, case_zeros, case_same, case_typed}
+use Rattle.lowering_laws.proofs.Aligns.{align_low}
+use Rattle.lowering_laws.proofs.Numbers.{scalar_low, unsigned_below}
+use Rattle.lowering_laws.proofs.LoweredWords.{are_append, word_8, word_16}
+use Rattle.lowering_laws.proofs.WordsByKind.{types_of, one_32, one_64, two_32, case_zeros, case_same, case_typed}
 use Rattle.abi_machine.specs.LoweringOver.{New, NewOwn, NewBorrow, NewEnd, Plan, Gives, Lowered}
 use Rattle.abi_machine.specs.LoweringOver as over
 use Rattle.abi_machine.specs.sound.Planned.{HasLowRep}

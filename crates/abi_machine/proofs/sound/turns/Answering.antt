@@ -39,10 +39,10 @@ use Rattle.comp_graph.specs.declared.graph.EndOp.{EndOp}
 use Rattle.comp_graph.specs.declared.graph.EndOp.TheVariants as end_op
 use Rattle.comp_graph.specs.Graph.{Graph, Lifted, passed_value}
 use Rattle.script_reader.specs.Script.{Script}
-use Rattle.trace_show.specs.declared.label.Label.TheVariants as line
-use Rattle.trace_show.specs.declared.label.BlockReason.TheVariants as reason
-use Rattle.trace_show.specs.declared.trap.TrapName.{TrapName}
-use Rattle.trace_show.specs.declared.trap.TrapName.TheVariants as trap
+use Rattle.trace_labels.specs.declared.label.Label.TheVariants as line
+use Rattle.trace_labels.specs.declared.label.BlockReason.TheVariants as reason
+use Rattle.trace_labels.specs.declared.trap.TrapName.{TrapName}
+use Rattle.trace_labels.specs.declared.trap.TrapName.TheVariants as trap
 use Rattle.abi_machine.specs.Traps.{task_name, renamed, refusal_name, set_name}
 use Rattle.abi_machine.specs.LiftingOver.{made}
 use Rattle.abi_machine.specs.Control.{EndRef, Replies, InWait, Back, Doomed}
@@ -94,7 +94,8 @@ use Rattle.abi_machine.proofs.sound.turns.Waking.{IsToCancel, call_keeps, with_k
 use Rattle.abi_machine.proofs.sound.turns.Nesting.{exempt_keeps, meets_keeps}
 use Rattle.abi_machine.proofs.sound.Entered.{acts_entered}
 use Rattle.abi_machine.proofs.sound.ends.Lifting.{result_brings}
-use Rattle.abi_machine.proofs.sound.ends.Readers.{reader_is_fresh}
+use Rattle.abi_machine.proofs.sound.ends.Brought.{removed_nowhere, both_once}
+use Rattle.abi_machine.proofs.sound.ends.Readers.{reader_is_fresh, new_live_still}
 
 -- what is known of a task that is looked up, of a fault that is not found, and of a copy
 is_there : (tasks : List Task) (t : ℕ) (task : Task) → slice_get tasks t ≡ Some task → IsSome (slice_get tasks t)
@@ -265,7 +266,7 @@ module _ {g : Graph} {s : Script} (inv : Invariant g s) where
       let u : World = entry_added i readable v in
       let k : Acted inv u = stay inv (AddsEntry i readable) v tt (few, tt, inl refl, tt, λ none. reader_is_fresh kind element w (inv.readers [] w h.0) none) j in
       entry_keeps inv t i writable u (λ second x. replied t (both_indices (next_index (table_of v i)) second ∷ []) x) k (λ more.
-      on_keeps inv t (both_indices (next_index (table_of v i)) (next_index (table_of u i)) ∷ []) (entry_added i writable u) (stay inv (AddsEntry i writable) u tt (more, tt, inr (new_is_made i kind element w, new_nowhere i kind element w (inv.writers [] w h.0)), tt, λ none. inl refl) k)))
+      on_keeps inv t (both_indices (next_index (table_of v i)) (next_index (table_of u i)) ∷ []) (entry_added i writable u) (stay inv (AddsEntry i writable) u tt (more, tt, inr (new_is_made i kind element w, new_nowhere i kind element w (inv.writers [] w h.0), new_live_still i kind element w), tt, λ none. inl refl) k)))
 
   placed_keeps : (t : ℕ) (bytes : List ℕ) (element : Option ValType) (place size : ℕ) (w : World) (more : Turn) → Acted inv w → Keeps inv more → Keeps inv (placed_well t bytes element place size w more)
   unfolding placed_well
@@ -327,8 +328,13 @@ module _ {g : Graph} {s : Script} (inv : Invariant g s) where
       refused_keeps inv t (end_at w kind side element i index) w (λ e. unless t (is_copying (end_of w e)) trap.Busy w (idle e)) h (λ e j.
       unless_keeps inv t (is_copying (end_of w e)) trap.Busy w (idle e) h (λ k.
       unless_keeps inv t (is_unwritten kind side (end_of w e)) trap.UnwrittenFuture w (answers e) h (λ l.
-      on_keeps inv t [] (after (DropsEnd e) (after (RemovesWaitable i index) w)) (stay inv (DropsEnd e) (after (RemovesWaitable i index) w) tt
-      (ap (λ (x : End). x.copy) (end_same w (after (RemovesWaitable i index) w) e refl refl) ∙ not_copying (end_of w e).copy k)
+      on_keeps inv t [] (after (DropsEnd e) (after (RemovesWaitable i index) w)) (stay inv (DropsEnd e) (after (RemovesWaitable i index) w) tt (
+        ap (λ (x : End). x.copy) (end_same w (after (RemovesWaitable i index) w) e refl refl) ∙ not_copying (end_of w e).copy k,
+        (
+          (λ writes. removed_nowhere i index e w (λ n other a. (inv.writers [] w h.0).once n other i index e writes a (end_found w i kind side element index e j).0)),
+          (λ none. removed_nowhere i index e w (λ n other a. both_once w.insts w.streams w.futures (inv.writers [] w h.0) (inv.readers [] w h.0 none) n other i index e a (end_found w i kind side element index e j).0)),
+        ),
+      )
       (stay inv (RemovesWaitable i index) w tt (OfEnd e, (end_found w i kind side element index e j).0, (tt, not_copying (end_of w e).copy k, tt)) h)))))
 
   subtask_cancel_keeps : (t i number : ℕ) (words : List ℕ) (w : World) → IsSome (task_at w t) → IsFirst t w.chain → may_leave w ≡ true → Acted inv w → Keeps inv (subtask_cancel_turn g t i number words w)

@@ -9,10 +9,10 @@ use Rattle.choices.specs.Drawing.{drawn, drawn_answer}
 use Rattle.handle_table.specs.History.{live_count, most_live, next_index}
 use Rattle.comp_graph.specs.Graph.{Graph}
 use Rattle.script_reader.specs.Script.{Script}
-use Rattle.trace_show.specs.declared.label.Label.{Label}
-use Rattle.trace_show.specs.declared.label.BlockReason.{BlockReason}
-use Rattle.trace_show.specs.declared.trap.TrapName.{TrapName}
-use Rattle.trace_show.specs.declared.trap.TrapName.TheVariants as trap
+use Rattle.trace_labels.specs.declared.label.Label.{Label}
+use Rattle.trace_labels.specs.declared.label.BlockReason.{BlockReason}
+use Rattle.trace_labels.specs.declared.trap.TrapName.{TrapName}
+use Rattle.trace_labels.specs.declared.trap.TrapName.TheVariants as trap
 use Rattle.abi_machine.specs.declared.run_end.RunEnd.TheVariants.{Fuel}
 use Rattle.abi_machine.specs.Control.{Control, Free, Chosen, Instantiates, Runs, Arrives, Lowers, Quiet, Back, Goes as GoesOn, Resumes, Delivers, Leaves, Doomed}
 use Rattle.abi_machine.specs.Control as control
@@ -33,7 +33,7 @@ use Rattle.abi_machine.specs.sound.Entered.{HaveEntered}
 use Rattle.abi_machine.specs.sound.EndsPassed.{ReadersPass}
 use Rattle.abi_machine.specs.sound.Agreeing.{FirstActs, Agrees}
 use Rattle.tasks.specs.declared.phase.Resolution.{Resolution}
-use Rattle.trace_show.specs.declared.label.Label.TheVariants as line
+use Rattle.trace_labels.specs.declared.label.Label.TheVariants as line
 use Rattle.abi_machine.specs.Calling.{replied_behind}
 use Rattle.abi_machine.specs.sound.Entering.{HasNotEntered, HasEntered}
 use Rattle.abi_machine.specs.sound.Lines as mark

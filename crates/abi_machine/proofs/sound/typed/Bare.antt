@@ -27,8 +27,8 @@ use Rattle.comp_graph.specs.declared.graph.CanonFunc.{CanonFunc}
 use Rattle.comp_graph.specs.declared.graph.CanonFunc.TheVariants as canon
 use Rattle.comp_graph.specs.Graph.{CoreMake, Graph, context_type, builtin_type, canon_type}
 use Rattle.script_reader.specs.Script.{Script}
-use Rattle.trace_show.specs.declared.label.Label.{Label}
-use Rattle.trace_show.specs.declared.label.Label.TheVariants as line
+use Rattle.trace_labels.specs.declared.label.Label.{Label}
+use Rattle.trace_labels.specs.declared.label.Label.TheVariants as line
 use Rattle.abi_machine.specs.declared.run_end.RunEnd.TheVariants.{Fuel}
 use Rattle.abi_machine.specs.Traps.{renamed, refusal_name}
 use Rattle.abi_machine.specs.World.{Entry, Inst, Callee, TaskState, New, Acting, AfterCall, AfterCancel, Begins, WaitsToEnter, InLoop, InBuiltin, Exited, Task, World, new_inst}

@@ -14,7 +14,7 @@ use Rattle.wasm_store.proofs.Zips.{get_behind}
 use Rattle.comp_graph.specs.declared.graph.Action.{Action}
 use Rattle.comp_graph.specs.declared.graph.Action.TheVariants.{Begin, Make}
 use Rattle.comp_graph.specs.Graph.{CoreMake, Graph, HasImports, AreImported}
-use Rattle.trace_show.specs.declared.trap.TrapName.TheVariants as trap
+use Rattle.trace_labels.specs.declared.trap.TrapName.TheVariants as trap
 use Rattle.abi_machine.specs.Control.{Control, Free, Instantiates, Runs, Doomed}
 use Rattle.abi_machine.specs.World.{Callee, Init, TaskState, Acting, Begins, Exited, Task, World}
 use Rattle.abi_machine.specs.Edits.{changed_at, with_control, with_store, instance_begun, unchained, in_state, stacked}

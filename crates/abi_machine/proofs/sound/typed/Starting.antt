@@ -12,7 +12,7 @@ use Rattle.entry_gate.specs.declared.kind.Kind.TheVariants.{Sync, Callback}
 use Rattle.comp_graph.specs.declared.graph.CanonFunc.{CanonFunc}
 use Rattle.comp_graph.specs.Graph.{Graph, Lifted}
 use Rattle.script_reader.specs.Script.{Script}
-use Rattle.trace_show.specs.declared.label.Label.{Label}
+use Rattle.trace_labels.specs.declared.label.Label.{Label}
 use Rattle.abi_machine.specs.Control.{Control, Free, Chosen, Instantiates, Runs, Arrives, Lowers, Quiet, Back, Goes as GoesOn, Resumes, Delivers, Leaves, Doomed}
 use Rattle.abi_machine.specs.Control as control
 use Rattle.abi_machine.specs.World.{Init, Task, World, first_world}

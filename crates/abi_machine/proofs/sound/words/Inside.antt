@@ -21,7 +21,7 @@ use Rattle.comp_graph.specs.declared.graph.BuiltinKind.TheVariants as builtin
 use Rattle.comp_graph.specs.declared.graph.EndOp.TheVariants as end_op
 use Rattle.comp_graph.specs.Graph.{Graph, copy_type}
 use Rattle.script_reader.specs.Script.{Script}
-use Rattle.trace_show.specs.declared.label.Label.{Label}
+use Rattle.trace_labels.specs.declared.label.Label.{Label}
 use Rattle.abi_machine.specs.Control.{Free}
 use Rattle.abi_machine.specs.World.{Channel, World, first_world}
 use Rattle.abi_machine.specs.Edits.{with_control}

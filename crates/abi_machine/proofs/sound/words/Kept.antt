@@ -4,7 +4,7 @@ use Rattle.wasm_store.specs.Store.{Store}
 use Rattle.wasm_store.proofs.Lists.{all_at}
 use Rattle.comp_graph.specs.Graph.{Graph}
 use Rattle.script_reader.specs.Script.{Script}
-use Rattle.trace_show.specs.declared.label.Label.{Label}
+use Rattle.trace_labels.specs.declared.label.Label.{Label}
 use Rattle.abi_machine.specs.Control.{Free}
 use Rattle.abi_machine.specs.World.{Task, World, first_world}
 use Rattle.abi_machine.specs.Edits.{with_control}

@@ -17,7 +17,7 @@ use Rattle.stream_ends.specs.declared.side.Side.{Side}
 use Rattle.stream_ends.specs.declared.side.Side.TheVariants.{Reader, Writer}
 use Rattle.comp_graph.specs.Passed.{params_type}
 use Rattle.comp_graph.specs.declared.graph.Options.{Options}
-use Rattle.trace_show.specs.declared.typed.TypedValue.{TypedValue}
+use Rattle.trace_labels.specs.declared.typed.TypedValue.{TypedValue}
 use Rattle.abi_machine.specs.LiftingOver.{Use, Ledger, What, AnOwn, ABorrow, AnEnd}
 use Rattle.abi_machine.specs.LiftingOver as over
 use Rattle.abi_machine.specs.Control.{EndRef}

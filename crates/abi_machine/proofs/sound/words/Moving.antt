@@ -20,8 +20,8 @@ use Rattle.comp_graph.specs.declared.graph.Action.TheVariants.{Begin, Make}
 use Rattle.comp_graph.specs.Needs.{flat_result_limit}
 use Rattle.comp_graph.specs.Graph.{Graph, CoreMake, Lifted}
 use Rattle.script_reader.specs.Script.{Script}
-use Rattle.trace_show.specs.declared.label.BlockReason.TheVariants as reason
-use Rattle.trace_show.specs.declared.trap.TrapName.TheVariants as trap
+use Rattle.trace_labels.specs.declared.label.BlockReason.TheVariants as reason
+use Rattle.trace_labels.specs.declared.trap.TrapName.TheVariants as trap
 use Rattle.abi_machine.specs.LoweringOver.{Plan, Gives, Fails, Asks, Size, Put, Adds}
 use Rattle.abi_machine.specs.Control.{Finishes, Copying, Then, Starts, Resolves, Transfers, Lowering}
 use Rattle.abi_machine.specs.World.{Entry, Inst, TaskState, New, Acting, AfterCall, AfterCancel, WaitsToEnter, InLoop, InBuiltin, Exited, Task, World}

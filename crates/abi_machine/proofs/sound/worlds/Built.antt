@@ -17,8 +17,8 @@ use Rattle.tasks.specs.Tasks.{is_asked, is_sync}
 use Rattle.tasks.specs.Subtasks.{is_over}
 use Rattle.comp_graph.specs.declared.graph.CanonFunc.{CanonFunc}
 use Rattle.comp_graph.specs.Graph.{Graph, Lifted, canon_type}
-use Rattle.trace_show.specs.declared.label.BlockReason.TheVariants as reason
-use Rattle.trace_show.specs.declared.trap.TrapName.TheVariants as trap
+use Rattle.trace_labels.specs.declared.label.BlockReason.TheVariants as reason
+use Rattle.trace_labels.specs.declared.trap.TrapName.TheVariants as trap
 use Rattle.abi_machine.specs.Control.{EndRef, InWait}
 use Rattle.abi_machine.specs.World.{OwnHandle, OfSet, OfEnd, Subtask, ForYield, ForSet, InBuiltin, Task, World}
 use Rattle.abi_machine.specs.Edits.{entry_removed, left_set, joined, set_made, with_backpressure, channel_made}

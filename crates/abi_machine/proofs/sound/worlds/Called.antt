@@ -28,8 +28,8 @@ use Rattle.comp_graph.specs.declared.graph.Resource.{Resource}
 use Rattle.comp_graph.specs.declared.graph.CanonFunc.{CanonFunc}
 use Rattle.comp_graph.specs.Needs.{flat_param_limit, destructor_type}
 use Rattle.comp_graph.specs.Graph.{Graph, Lifted, canon_type}
-use Rattle.trace_show.specs.declared.label.Label.TheVariants as line
-use Rattle.trace_show.specs.declared.trap.TrapName.TheVariants as trap
+use Rattle.trace_labels.specs.declared.label.Label.TheVariants as line
+use Rattle.trace_labels.specs.declared.trap.TrapName.TheVariants as trap
 use Rattle.abi_machine.specs.Control.{Replies, Back}
 use Rattle.abi_machine.specs.World.{Callee, Destroys, Subtask, Caller, Nobody, Host, Guest, Acting, AfterCall, AfterCancel, Task, World}
 use Rattle.abi_machine.specs.Edits.{entry_removed, in_state, resolved}

@@ -10,7 +10,7 @@ use Rattle.wasm_store.specs.Step.{Move, Goes, Traps, next}
 use Rattle.wasm_store.specs.Step as core
 use Rattle.wasm_store.specs.Typed.{StoreTyped, StackTyped}
 use Rattle.std.specs.Prelude.{IsSome}
-use Rattle.canonical_machine.specs.Kept.{HasBytesAlone}
+use Rattle.lowering_laws.specs.StoreBytes.{HasBytesAlone}
 use Rattle.comp_graph.specs.Graph.{Graph, Lifted}
 use Rattle.entry_gate.specs.declared.kind.Kind.TheVariants.{Callback}
 use Rattle.abi_machine.specs.Control.{HostedState, Going, AtCall, Behind, InLowering, BeforeLeaving, Control, Free, Chosen, Instantiates, Runs, Calls, Arrives, Lowers, Quiet, Back, Goes as GoesOn, Resumes, Delivers, Leaves, Doomed}

@@ -14,9 +14,9 @@ use Rattle.tasks.specs.declared.phase.Cancellation.{Cancellation}
 use Rattle.tasks.specs.declared.phase.Resolution.{Resolution}
 use Rattle.comp_graph.specs.declared.graph.Options.{Options}
 use Rattle.comp_graph.specs.Graph.{Graph, canon_type}
-use Rattle.canonical_machine.specs.Values.{AreBytes}
-use Rattle.canonical_machine.specs.Kept.{HasBytesAlone}
-use Rattle.canonical_machine.proofs.Staying.{GoesOn}
+use Rattle.lowering_laws.specs.Values.{AreBytes}
+use Rattle.lowering_laws.specs.StoreBytes.{HasBytesAlone}
+use Rattle.lowering_laws.proofs.Stores.{GoesOn}
 use Rattle.abi_machine.specs.World.{Inst, Callee, Subtask, Caller, Nobody, Host, Guest, Wait, ForYield, ForSet, ForCall, ForCopy, ForCancel, TaskState, New, Acting, AfterCall, AfterCancel, Begins, WaitsToEnter, InLoop, InBuiltin, Exited, Task, new_task}
 use Rattle.abi_machine.specs.Edits.{changed_at, caller_changed, word_changed, rewritten}
 use Rattle.abi_machine.specs.Canons.{memory_of, bytes_of_memory, bytes_of, options_at}

@@ -14,9 +14,8 @@ use Rattle.wasm_store.proofs.Lists.{all_at}
 use Rattle.handle_table.specs.History.{Event, IsHistory}
 use Rattle.comp_graph.specs.Graph.{Graph, Lifted}
 use Rattle.comp_graph.specs.Needs.{lift_type, realloc_type}
-use Rattle.trace_show.specs.declared.label.Label.TheVariants as line
-use Rattle.canonical_machine.proofs.Returns.{typed_start}
-use Rattle.canonical_machine.proofs.Staying.{GoesOn}
+use Rattle.trace_labels.specs.declared.label.Label.TheVariants as line
+use Rattle.lowering_laws.proofs.Stores.{typed_start, GoesOn}
 use Rattle.abi_machine.specs.LoweringOver.{Plan}
 use Rattle.abi_machine.specs.Control.{After, Replies, Finishes, Then, Starts, Resolves, Transfers, Copying, Lowering}
 use Rattle.abi_machine.specs.World.{Entry, Inst, Subtask, Acting, Task, World}

@@ -24,11 +24,11 @@ use Rattle.ca_types.specs.declared.types.FuncType.{FuncType}
 use Rattle.ca_types.specs.declared.core_type.FlatKind.TheVariants.{SyncLift, AsyncLift, CallbackLift}
 use Rattle.ca_types.specs.Flat.{flat_func}
 use Rattle.script_reader.specs.Script.{Script}
-use Rattle.trace_show.specs.declared.label.BlockReason.TheVariants as reason
-use Rattle.trace_show.specs.declared.trap.TrapName.TheVariants as trap
-use Rattle.canonical_machine.specs.Kept.{HasBytesAlone}
-use Rattle.canonical_machine.proofs.Staying.{GoesOn}
-use Rattle.canonical_machine.proofs.Moved as bytes
+use Rattle.trace_labels.specs.declared.label.BlockReason.TheVariants as reason
+use Rattle.trace_labels.specs.declared.trap.TrapName.TheVariants as trap
+use Rattle.lowering_laws.specs.StoreBytes.{HasBytesAlone}
+use Rattle.lowering_laws.proofs.Stores.{GoesOn}
+use Rattle.lowering_laws.proofs.Moved as bytes
 use Rattle.abi_machine.specs.Control.{Finishes}
 use Rattle.abi_machine.specs.World.{Callee, TaskState, Acting, InLoop, Task, World}
 use Rattle.abi_machine.specs.Edits.{with_store, unstacked}

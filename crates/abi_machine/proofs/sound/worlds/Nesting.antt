@@ -19,10 +19,10 @@ use Rattle.comp_graph.specs.declared.graph.CanonFunc.{CanonFunc}
 use Rattle.comp_graph.specs.declared.graph.CanonFunc.TheVariants as canon
 use Rattle.comp_graph.specs.Graph.{Graph, builtin_type, canon_type}
 use Rattle.script_reader.specs.Script.{Script}
-use Rattle.trace_show.specs.declared.label.Label.TheVariants as line
-use Rattle.trace_show.specs.declared.trap.TrapName.{TrapName}
-use Rattle.canonical_machine.specs.Kept.{HasBytesAlone}
-use Rattle.canonical_machine.proofs.Staying.{GoesOn}
+use Rattle.trace_labels.specs.declared.label.Label.TheVariants as line
+use Rattle.trace_labels.specs.declared.trap.TrapName.{TrapName}
+use Rattle.lowering_laws.specs.StoreBytes.{HasBytesAlone}
+use Rattle.lowering_laws.proofs.Stores.{GoesOn}
 use Rattle.abi_machine.specs.Control.{After, Replies, Finishes, Then, Starts, Resolves, Transfers, HostedState, Going, AtCall, Nested, Behind, InLowering, BeforeLeaving}
 use Rattle.abi_machine.specs.World.{Task, World}
 use Rattle.abi_machine.specs.Edits.{word_changed}

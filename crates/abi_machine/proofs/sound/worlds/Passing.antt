@@ -15,9 +15,9 @@ use Rattle.comp_graph.specs.declared.graph.FuncRef.{FuncRef}
 use Rattle.comp_graph.specs.declared.graph.Options.{Options}
 use Rattle.comp_graph.specs.Needs.{lift_type, post_return_type, realloc_type}
 use Rattle.comp_graph.specs.Graph.{Graph, Lifted, core_type, IsReallocThere}
-use Rattle.trace_show.specs.declared.label.Label.TheVariants as line
-use Rattle.canonical_machine.proofs.Bytes.{each_byte}
-use Rattle.canonical_machine.proofs.Returns.{typed_start}
+use Rattle.trace_labels.specs.declared.label.Label.TheVariants as line
+use Rattle.lowering_laws.proofs.Bytes.{each_byte}
+use Rattle.lowering_laws.proofs.Stores.{typed_start}
 use Rattle.abi_machine.specs.Control.{After, Replies, Finishes}
 use Rattle.abi_machine.specs.World.{Callee, Init, Func, Destroys, Subtask, Caller, Nobody, Host, Guest, Acting, Task, World}
 use Rattle.abi_machine.specs.Edits.{caller_changed, by_view, entry_removed, left_set, in_state}

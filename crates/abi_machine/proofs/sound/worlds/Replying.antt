@@ -22,8 +22,8 @@ use Rattle.comp_graph.specs.declared.graph.BuiltinKind.TheVariants as kind
 use Rattle.comp_graph.specs.declared.graph.CanonFunc.{CanonFunc}
 use Rattle.comp_graph.specs.declared.graph.CanonFunc.TheVariants as canon
 use Rattle.comp_graph.specs.Graph.{Graph, resource_type, plain_type, copy_type, end_type, builtin_type, canon_type}
-use Rattle.trace_show.specs.declared.label.Label.TheVariants as line
-use Rattle.trace_show.specs.declared.trap.TrapName.{TrapName}
+use Rattle.trace_labels.specs.declared.label.Label.TheVariants as line
+use Rattle.trace_labels.specs.declared.trap.TrapName.{TrapName}
 use Rattle.abi_machine.specs.World.{Func, Acting, Task, World}
 use Rattle.abi_machine.specs.Edits.{word_changed, word_set}
 use Rattle.abi_machine.specs.Canons.{builtin_of, canon_at, lifted_of}

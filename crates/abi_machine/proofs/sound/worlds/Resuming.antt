@@ -18,7 +18,7 @@ use Rattle.tasks.specs.Tasks.{is_asked, cancel_case}
 use Rattle.comp_graph.specs.declared.graph.CanonFunc.{CanonFunc}
 use Rattle.comp_graph.specs.Graph.{Graph, Lifted, canon_type}
 use Rattle.script_reader.specs.Script.{Script}
-use Rattle.trace_show.specs.declared.label.BlockReason.TheVariants as reason
+use Rattle.trace_labels.specs.declared.label.BlockReason.TheVariants as reason
 use Rattle.abi_machine.specs.Control.{Receiver, InWait, InCallback, Control, Delivers}
 use Rattle.abi_machine.specs.World.{OfSubtask, Wait, ForYield, ForSet, ForCall, ForCopy, ForCancel, TaskState, New, Acting, AfterCall, AfterCancel, Begins, WaitsToEnter, InLoop, InBuiltin, Exited, Task, World}
 use Rattle.abi_machine.specs.Edits.{with_control, in_state, resolved, with_cancellation, told}

@@ -6,7 +6,7 @@ use Rattle.comp_graph.specs.Graph.{Graph, Lifted, func_named}
 use Rattle.script_reader.specs.Script.{Script}
 use Rattle.script_reader.specs.declared.script.Item.{Item}
 use Rattle.script_reader.specs.declared.script.Item.TheVariants as item
-use Rattle.trace_show.specs.declared.label.Label.TheVariants as line
+use Rattle.trace_labels.specs.declared.label.Label.TheVariants as line
 use Rattle.abi_machine.specs.Control.{Free}
 use Rattle.abi_machine.specs.World.{Func, Host, Task, World}
 use Rattle.abi_machine.specs.Edits.{chained, item_taken}

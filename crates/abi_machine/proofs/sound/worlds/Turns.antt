@@ -11,13 +11,13 @@ use Rattle.tasks.specs.declared.subtask_state.SubtaskState.{SubtaskState}
 use Rattle.tasks.specs.Subtasks.{delivered, with_lend}
 use Rattle.comp_graph.specs.Graph.{Graph, Lifted}
 use Rattle.script_reader.specs.Script.{Script}
-use Rattle.trace_show.specs.declared.label.BlockReason.{BlockReason}
-use Rattle.trace_show.specs.declared.label.Label.{Label}
-use Rattle.trace_show.specs.declared.label.Label.TheVariants as line
-use Rattle.trace_show.specs.declared.trap.TrapName.{TrapName}
-use Rattle.trace_show.specs.declared.trap.TrapName.TheVariants as trap
+use Rattle.trace_labels.specs.declared.label.BlockReason.{BlockReason}
+use Rattle.trace_labels.specs.declared.label.Label.{Label}
+use Rattle.trace_labels.specs.declared.label.Label.TheVariants as line
+use Rattle.trace_labels.specs.declared.trap.TrapName.{TrapName}
+use Rattle.trace_labels.specs.declared.trap.TrapName.TheVariants as trap
 use Rattle.abi_machine.specs.declared.run_end.RunEnd.TheVariants.{Fuel}
-use Rattle.canonical_machine.proofs.Staying.{GoesOn}
+use Rattle.lowering_laws.proofs.Stores.{GoesOn}
 use Rattle.abi_machine.specs.World.{Entry, Inst, Subtask, TaskState, Acting, Task, Channel, World}
 use Rattle.abi_machine.specs.Edits.{changed_at, caller_changed, by_view, with_control, with_store, with_inst, unit_spent, entry_added, entry_removed, left_set, in_state, told, lent, answered_stacks, left_chain, control_behind, with_channel}
 use Rattle.abi_machine.specs.Reading.{table_of, acting, func_of, subtask_of, task_at}

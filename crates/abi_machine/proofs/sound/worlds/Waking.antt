@@ -22,9 +22,9 @@ use Rattle.tasks.specs.Tasks.{is_asked}
 use Rattle.comp_graph.specs.declared.graph.FuncRef.{FuncRef}
 use Rattle.comp_graph.specs.Needs.{callback_type}
 use Rattle.comp_graph.specs.Graph.{Graph, Lifted, core_type}
-use Rattle.canonical_machine.specs.Values.{AreBytes}
-use Rattle.canonical_machine.proofs.Memories.{length_written}
-use Rattle.canonical_machine.proofs.Bytes.{between, le_bytes}
+use Rattle.lowering_laws.specs.Values.{AreBytes}
+use Rattle.lowering_laws.proofs.Memories.{length_written}
+use Rattle.lowering_laws.proofs.Bytes.{between, le_bytes}
 use Rattle.abi_machine.specs.Control.{EventCode, NoEvent, SubtaskEvent, TaskCancelled, Receiver, InWait, InCallback}
 use Rattle.abi_machine.specs.World.{Entry, OwnHandle, BorrowHandle, OfSubtask, OfSet, OfEnd, Inst, Subtask, Callee, Acting, Task, Channel, World}
 use Rattle.abi_machine.specs.Edits.{changed_at, caller_changed, by_view, with_cancellation, with_channel}

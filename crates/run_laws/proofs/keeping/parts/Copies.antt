@@ -22,7 +22,7 @@ use Rattle.instances.specs.declared.entry.WorldEntry.TheVariants as entry
 use Rattle.instances.specs.Entries.{same_side, is_of_type, typed_end, end_in}
 use Rattle.instances.specs.Instances as instance
 use Rattle.instances.specs.Instances.{InstanceView, entry_of, with_sets}
-use Rattle.trace_show.specs.declared.trap.TrapName.TheVariants as trap
+use Rattle.trace_labels.specs.declared.trap.TrapName.TheVariants as trap
 use Rattle.world_parts.specs.Views.{Views}
 use Rattle.world_parts.specs.Held.{Held, Done, Gives, Traps, after, given}
 use Rattle.world_parts.specs.Feed.{got}

@@ -13,8 +13,8 @@ use Rattle.instances.specs.declared.refusal.DropSetError.TheVariants as drop_err
 use Rattle.instances.specs.Entries.{set_in}
 use Rattle.instances.specs.Calls.{dropped_set}
 use Rattle.instances.specs.Instances.{InstanceView, entry_of}
-use Rattle.trace_show.specs.declared.label.BlockReason.TheVariants as reason
-use Rattle.trace_show.specs.declared.trap.TrapName.TheVariants as trap
+use Rattle.trace_labels.specs.declared.label.BlockReason.TheVariants as reason
+use Rattle.trace_labels.specs.declared.trap.TrapName.TheVariants as trap
 use Rattle.world_parts.specs.Views.{Views}
 use Rattle.world_parts.specs.declared.parts.Receiver.TheVariants as receiver
 use Rattle.world_parts.specs.Held.{Held, Gives, Traps, after, given}

@@ -2,7 +2,7 @@
 use Rattle.std.specs.Prelude.{ℕ, ◌+◌, if◌then◌else◌, List, [], ◌∷◌}
 use Rattle.std.specs.List.{slice_get}
 use Rattle.task_table.specs.Callers.{with_lend}
-use Rattle.trace_show.specs.declared.label.Label.TheVariants as line
+use Rattle.trace_labels.specs.declared.label.Label.TheVariants as line
 use Rattle.value_lift.specs.declared.moved.Moved.{Moved}
 use Rattle.value_lift.specs.declared.moved.Moved.TheVariants.{Lent, Taken}
 use Rattle.world_parts.specs.Held.{Held, Gives, Stuck}

@@ -1,0 +1,5 @@
+pub mod Calls
+pub mod Calling
+pub mod Ends
+pub mod Waiters
+pub mod Copies

@@ -1,0 +1,172 @@
+-- Values that are passed: memories, core instances and ends stay as they are kept.
+use Rattle.std.proofs.Common.{◌≡◌, ℕ, List, [], Option, Some, None, sym, subst}
+use Rattle.std.specs.List.{slice_get}
+use Rattle.ca_types.specs.declared.value.Value.{Value}
+use Rattle.laid_types.specs.Known.{Numbered, numbered_at}
+use Rattle.entry_gate.specs.declared.kind.Kind.{Kind}
+use Rattle.entry_gate.specs.declared.kind.Kind.TheVariants.{Sync, Callback, Stackful}
+use Rattle.comp_graph.specs.declared.graph.FuncRef.{FuncRef}
+use Rattle.copy_replies.specs.declared.moving.Moving.{Moving}
+use Rattle.copy_replies.specs.Moves.{moving, completed}
+use Rattle.task_table.specs.declared.caller.Caller.{Caller}
+use Rattle.task_table.specs.declared.caller.Caller.TheVariants.{Nobody, Host, Guest}
+use Rattle.task_table.specs.declared.errand.Callee.{Callee}
+use Rattle.task_table.specs.declared.errand.Callee.TheVariants as callee
+use Rattle.programs.specs.declared.program.Program.{Program}
+use Rattle.programs.specs.Program.{value_of}
+use Rattle.trace_labels.specs.declared.label.Copied.TheVariants.{Units}
+use Rattle.trace_labels.specs.declared.typed.TypedValue.{TypedValue}
+use Rattle.world_parts.specs.declared.parts.Copying.{Copying}
+use Rattle.world_parts.specs.declared.parts.Flow.{Flow}
+use Rattle.world_parts.specs.declared.parts.Flow.TheVariants as flow
+use Rattle.world_parts.specs.Held.{Held, Done, Gives, Stuck, given}
+use Rattle.world_parts.specs.Feed.{acting, got}
+use Rattle.world_parts.specs.Plain.{returned}
+use Rattle.world_parts.specs.Slots.{kind_of, result_kept}
+use Rattle.value_parts.specs.declared.to_pass.Passing.{Passing}
+use Rattle.value_parts.specs.declared.to_pass.Passing.TheVariants as passing
+use Rattle.value_parts.specs.Coming.{Then}
+use Rattle.value_parts.specs.Lifting.{elements_lifted}
+use Rattle.value_parts.specs.Passing.{arguments_lifted, ended_lifted, returned_lifted}
+use Rattle.run_laws.proofs.keeping.still.Feed.{acting_still, got_still}
+use Rattle.run_laws.proofs.keeping.still.Plain.{returned_still}
+use Rattle.run_laws.proofs.keeping.still.Slots.{kind_of_still, result_kept_still}
+use Rattle.value_moves.specs.Lowering.{LowersInto, LowersAll}
+use Rattle.value_moves.specs.Lowered.{arguments_way, LowersPassed, arguments_entered, LowersArguments, result_way, LowersBack, LowersKept, LowersFor, LowersResult}
+use Rattle.value_moves.specs.Entering.{words_passed, ValuesCome, ArgumentsCome, entered, started_by, Enters}
+use Rattle.value_moves.specs.Resolving.{PassesOn, Resolves, ResolvesEnded, PostReturnsTo, Ends, return_tested, ReturnResolves, TestedResolves, Returns}
+use Rattle.value_moves.specs.Transferring.{origin_of, reader_of, copied_values, Reads, MovesElements, MovesOver, Transfers}
+use Rattle.value_moves.specs.Passing.{lift_at, async_ended, SyncEnds, KindEnds, call_at, ReturnsBy, PassesFor, Passes}
+use Rattle.run_laws.proofs.keeping.still.Lifted.{arguments_lifted_still, ended_lifted_still, returned_lifted_still, elements_lifted_still}
+use Rattle.run_laws.proofs.keeping.still.Lowering.{lowers_into_still, lowers_all_still}
+use Rattle.run_laws.proofs.keeping.still.PostReturning.{post_returns_still}
+use Rattle.run_laws.proofs.keeping.still.Ways.{arguments_way_still, arguments_entered_still, result_way_still}
+use Rattle.run_laws.proofs.keeping.still.Entering.{words_passed_still, entered_still, started_by_still}
+use Rattle.run_laws.proofs.keeping.still.ReturnTested.{return_tested_still}
+use Rattle.run_laws.proofs.keeping.still.Ending.{lift_at_still, async_ended_still}
+use Rattle.run_laws.proofs.keeping.still.Copying.{moving_still, completed_still}
+use Rattle.run_laws.proofs.keeping.still.Still.{no_kinds, StillBy, still_given, still_same}
+use Rattle.run_laws.proofs.keeping.still.Coming.{comes_still, then_still}
+
+same_still : {A : Type 0} (h : Held) (d e : Done A) → StillBy no_kinds h e → d ≡ e → StillBy no_kinds h d
+same_still h d e p is = subst (StillBy no_kinds h) (sym is) p
+
+-- Arguments.
+passed_still : (p : Program) (t : ℕ) (v : Value) (h : Held) (d : Done (List ℕ)) → LowersPassed p t v h d → StillBy no_kinds h d
+passed_still p t v h d b =
+    comes_still no_kinds h (arguments_way p t h) (λ w k e. LowersInto p w.to w.type v w.target k e) d (arguments_way_still p t h) (λ w k is. lowers_into_still p w.to w.type v w.target k d is) b
+
+arguments_still : (p : Program) (t : ℕ) (v : Value) (h : Held) (d : Done (List ℕ)) → LowersArguments p t v h d → StillBy no_kinds h d
+arguments_still p t v h d b =
+    then_still no_kinds h (λ e. LowersPassed p t v h e) (λ words k e. e ≡ arguments_entered p t v words k) d (λ e is. passed_still p t v h e is)
+    (λ words k is. same_still k d (arguments_entered p t v words k) (arguments_entered_still p t v words k) is) b
+
+values_come : (p : Program) (t : ℕ) (h : Held) (d : Done (List ℕ)) → ValuesCome p t h d → StillBy no_kinds h d
+values_come p t h d b = comes_still no_kinds h (arguments_lifted p t h) (λ v k e. LowersArguments p t v k e) d (arguments_lifted_still p t h) (λ v k is. arguments_still p t v k d is) b
+
+arguments_come : (p : Program) (t : ℕ) (c : Callee) (h : Held) (d : Done (List ℕ)) → ArgumentsCome p t c h d → StillBy no_kinds h d
+arguments_come p t callee.Init h d b = values_come p t h d b
+arguments_come p t (callee.Export number) h d b = values_come p t h d b
+arguments_come p t (callee.Lowered number) h d b = values_come p t h d b
+arguments_come p t (callee.Destroys resource) h d b = same_still h d (words_passed t h) (words_passed_still t h) b
+
+enters_still : (p : Program) (t : ℕ) (h : Held) (d : Done Flow) → Enters p t h d → StillBy no_kinds h d
+enters_still p t h d b =
+    comes_still no_kinds h (entered t h) (λ c k e. Then (ArgumentsCome p t c k) (λ words l f. f ≡ started_by p c words l) e) d (entered_still t h)
+    (λ c k is.
+    then_still no_kinds k (ArgumentsCome p t c k) (λ words l f. f ≡ started_by p c words l) d (λ e come. arguments_come p t c k e come)
+    (λ words l same. same_still l d (started_by p c words l) (started_by_still p c words l) same) is) b
+
+-- Results.
+back_still : (p : Program) (v : Value) (c : Callee) (by number : ℕ) (words : List ℕ) (h : Held) (d : Done (List ℕ)) → LowersBack p v c by number words h d → StillBy no_kinds h d
+back_still p v c by number words h d b =
+    comes_still no_kinds h (result_way p c by number words h) (λ w k e. LowersInto p w.to w.type v w.target k e) d (result_way_still p c by number words h)
+    (λ w k is. lowers_into_still p w.to w.type v w.target k d is) b
+
+kept_still : (p : Program) (t : ℕ) (v : Value) (c : Callee) (by number : ℕ) (words : List ℕ) (h : Held) (d : Done (Unit {0})) → LowersKept p t v c by number words h d → StillBy no_kinds h d
+kept_still p t v c by number words h d b =
+    then_still no_kinds h (λ e. LowersBack p v c by number words h e) (λ results k e. e ≡ result_kept t results k) d (λ e is. back_still p v c by number words h e is)
+    (λ results k is. same_still k d (result_kept t results k) (result_kept_still no_kinds t results k) is) b
+
+for_still : (p : Program) (t : ℕ) (v : Value) (c : Callee) (by : Caller) (h : Held) (d : Done (Unit {0})) → LowersFor p t v c by h d → StillBy no_kinds h d
+for_still p t v c Nobody h d b = same_still h d (Gives tt h) (still_same no_kinds h) b
+for_still p t v c (Host call) h d b = same_still h d (Gives tt h) (still_same no_kinds h) b
+for_still p t v c (Guest called) h d b = kept_still p t v c called.by called.canon called.words h d b
+
+result_still : (p : Program) (t : ℕ) (v : Value) (h : Held) (d : Done (Unit {0})) → LowersResult p t v h d → StillBy no_kinds h d
+result_still p t v h d b =
+    comes_still no_kinds h (given (slice_get h.tasks t) (λ slot. Gives slot h)) (λ slot k e. LowersFor p t v slot.callee slot.caller k e) d
+    (still_given no_kinds h (slice_get h.tasks t) (λ slot. Gives slot h) (λ slot is. still_same no_kinds h)) (λ slot k is. for_still p t v slot.callee slot.caller k d is) b
+
+on_still : (p : Program) (t : ℕ) (o : Option TypedValue) (h : Held) (d : Done (Unit {0})) → PassesOn p t o h d → StillBy no_kinds h d
+on_still p t None h d b = same_still h d (Gives tt h) (still_same no_kinds h) b
+on_still p t (Some v) h d b = result_still p t v.value h d b
+
+resolves_still : (p : Program) (t : ℕ) (value : Option TypedValue) (h : Held) (d : Done (Unit {0})) → Resolves p t value h d → StillBy no_kinds h d
+resolves_still p t value h d b = comes_still no_kinds h (returned t value h) (λ done k e. PassesOn p t value k e) d (returned_still no_kinds t value h) (λ done k is. on_still p t value k d is) b
+
+ended_still : (p : Program) (t : ℕ) (words : List ℕ) (h : Held) (d : Done (Unit {0})) → ResolvesEnded p t words h d → StillBy no_kinds h d
+ended_still p t words h d b = comes_still no_kinds h (ended_lifted p t words h) (λ value k e. Resolves p t value k e) d (ended_lifted_still p t words h) (λ value k is. resolves_still p t value k d is) b
+
+ends_still : (p : Program) (t : ℕ) (post : Option FuncRef) (words : List ℕ) (h : Held) (d : Done (Unit {0})) → Ends p t post words h d → StillBy no_kinds h d
+ends_still p t post words h d b =
+    then_still no_kinds h (ResolvesEnded p t words h) (λ done k e. PostReturnsTo p t post words k e) d (λ e is. ended_still p t words h e is) (λ done k is. post_returns_still p t post words k d is) b
+
+return_still : (p : Program) (t canon : ℕ) (h : Held) (d : Done (Unit {0})) → ReturnResolves p t canon h d → StillBy no_kinds h d
+return_still p t canon h d b = comes_still no_kinds h (returned_lifted p t canon h) (λ value k e. Resolves p t value k e) d (returned_lifted_still p t canon h) (λ value k is. resolves_still p t value k d is) b
+
+tested_still : (p : Program) (t canon : ℕ) (h : Held) (d : Done (Unit {0})) → TestedResolves p t canon h d → StillBy no_kinds h d
+tested_still p t canon h d b = comes_still no_kinds h (return_tested p t canon h) (λ tested k e. ReturnResolves p t canon k e) d (return_tested_still p t canon h) (λ tested k is. return_still p t canon k d is) b
+
+returns_still : (p : Program) (t canon : ℕ) (h : Held) (d : Done Flow) → Returns p t canon h d → StillBy no_kinds h d
+returns_still p t canon h d b =
+    then_still no_kinds h (TestedResolves p t canon h) (λ done k e. e ≡ got t [] k) d (λ e is. tested_still p t canon h e is) (λ done k is. same_still k d (got t [] k) (got_still no_kinds t [] k) is) b
+
+-- Elements.
+reads_still : (p : Program) (m : Moving) (t : Numbered) (values : List Value) (h : Held) (d : Done Flow) → Reads p m t values h d → StillBy no_kinds h d
+reads_still p m t values h d b =
+    then_still no_kinds h (λ e. LowersAll p (reader_of m h) t values m.reader.place h e) (λ words k e. e ≡ completed m (copied_values t values) k) d
+    (λ e is. lowers_all_still p (reader_of m h) t values m.reader.place h e is)
+    (λ words k is. same_still k d (completed m (copied_values t values) k) (completed_still m (copied_values t values) k) is) b
+
+elements_still : (p : Program) (m : Moving) (t : Numbered) (h : Held) (d : Done Flow) → MovesElements p m t h d → StillBy no_kinds h d
+elements_still p m t h d b =
+    comes_still no_kinds h (elements_lifted (origin_of m) t m.writer.place m.count h) (λ values k e. Reads p m t values k e) d (elements_lifted_still (origin_of m) t m.writer.place m.count h)
+    (λ values k is. reads_still p m t values k d is) b
+
+over_still : (p : Program) (m : Moving) (o : Option ℕ) (h : Held) (d : Done Flow) → MovesOver p m o h d → StillBy no_kinds h d
+over_still p m None h d b = same_still h d (completed m (Units m.count) h) (completed_still m (Units m.count) h) b
+over_still p m (Some number) h d b =
+    comes_still no_kinds h (given (numbered_at p.types.now number) (λ t. Gives t h)) (λ t k e. MovesElements p m t k e) d
+    (still_given no_kinds h (numbered_at p.types.now number) (λ t. Gives t h) (λ t is. still_same no_kinds h)) (λ t k is. elements_still p m t k d is) b
+
+transfers_still : (p : Program) (t : ℕ) (x : Copying) (h : Held) (d : Done Flow) → Transfers p t x h d → StillBy no_kinds h d
+transfers_still p t x h d b =
+    comes_still no_kinds h (moving p.graph.now t x h) (λ m k e. MovesOver p m (value_of p x.canon) k e) d (moving_still p.graph.now t x h) (λ m k is. over_still p m (value_of p x.canon) k d is) b
+
+-- Whatever is passed.
+sync_still : (p : Program) (t : ℕ) (words : List ℕ) (h : Held) (d : Done Flow) → SyncEnds p t words h d → StillBy no_kinds h d
+sync_still p t words h d b =
+    comes_still no_kinds h (lift_at p t h) (λ lift k e. Then (Ends p t lift.options.post_return words k) (λ done l f. f ≡ Gives flow.Rests l) e) d (lift_at_still p t h)
+    (λ lift k is.
+    then_still no_kinds k (Ends p t lift.options.post_return words k) (λ done l f. f ≡ Gives flow.Rests l) d (λ e ends. ends_still p t lift.options.post_return words k e ends)
+    (λ done l same. same_still l d (Gives flow.Rests l) (still_same no_kinds l) same) is) b
+
+kind_still : (p : Program) (t : ℕ) (words : List ℕ) (kind : Kind) (h : Held) (d : Done Flow) → KindEnds p t words kind h d → StillBy no_kinds h d
+kind_still p t words Sync h d b = sync_still p t words h d b
+kind_still p t words Callback h d b = same_still h d (async_ended t Callback words h) (async_ended_still t Callback words h) b
+kind_still p t words Stackful h d b = same_still h d (async_ended t Stackful words h) (async_ended_still t Stackful words h) b
+
+by_still : (p : Program) (t : ℕ) (o : Option ℕ) (h : Held) (d : Done Flow) → ReturnsBy p t o h d → StillBy no_kinds h d
+by_still p t None h d b = same_still h d Stuck tt b
+by_still p t (Some canon) h d b = returns_still p t canon h d b
+
+passes_for : (p : Program) (t : ℕ) (x : Passing) (h : Held) (d : Done Flow) → PassesFor p t x h d → StillBy no_kinds h d
+passes_for p t passing.Nothing h d b = same_still h d (Gives flow.Rests h) (still_same no_kinds h) b
+passes_for p t passing.Arguments h d b = enters_still p t h d b
+passes_for p t passing.Returned h d b = by_still p t (call_at h.rest) h d b
+passes_for p t (passing.Ended words) h d b = comes_still no_kinds h (kind_of t h) (λ kind k e. KindEnds p t words kind k e) d (kind_of_still no_kinds t h) (λ kind k is. kind_still p t words kind k d is) b
+passes_for p t (passing.Elements copying) h d b = transfers_still p t copying h d b
+
+pub passes_still : (p : Program) (x : Passing) (h : Held) (d : Done Flow) → Passes p x h d → StillBy no_kinds h d
+passes_still p x h d b = comes_still no_kinds h (acting h) (λ t k e. PassesFor p t x k e) d (acting_still no_kinds h) (λ t k is. passes_for p t x k d is) b

@@ -1,0 +1,62 @@
+//! What is carried from point to point of a run, and whole runs.
+
+ghost use Rattle.run_laws.specs.Carried.{FirstIsCarried, CarriedStepsSo, CarriedMayStep, StepsCarry, RunsAreOfMachine};
+ghost use Rattle.run_laws.specs.Left.{DumpsAgree, RunsLeaveDumps, RunsLeaveWorlds};
+ghost use Rattle.run_laws.specs.SuppliedPassings.{ProgramsPass, ReturnedSupplied, ElementsSupplied, EndedSupplied};
+
+use crate::supplying::words_are_supplied;
+use reach_laws::{reached_worlds_are_typed, steps_are_fed};
+
+/// The program that is made of a graph and a script for it numbers the types of what its functions and built-ins pass, and tells the values of the script's
+/// calls: all that is asked of a program's numbers and values where values are passed.
+pub fn programs_pass()
+    ensures { ProgramsPass }
+{}
+
+/// Where a task returns by `task.return`, and where elements go over, what is asked to pass them is so where it called the canonical function in a world
+/// that a run reaches, and what is kept is right then; of elements, where their place at the reader was tested besides.
+pub fn passings_are_supplied()
+    ensures returned { ReturnedSupplied }
+    ensures elements { ElementsSupplied }
+{}
+
+/// Where a core function or a callback has ended, what is asked to pass its words is so where its stack ran in a world that a run of a graph and a script that
+/// fit reaches.
+pub fn ends_are_supplied()
+    ensures { EndedSupplied }
+{
+    reached_worlds_are_typed();
+}
+
+/// What is carried from point to point of a run of a program that is made of a graph and a script that fit: where the machine is, what of what is kept is right
+/// beside its world, and, where values are to be passed, from which rest a step led there. It is so before the graph is instantiated. Where single steps leave
+/// what `StepsLeave` names, it gives all that a step asks, for marks to stay and for the machine to do the same; and each step that goes on leaves it.
+pub fn runs_are_carried()
+    ensures first { FirstIsCarried }
+    ensures so { CarriedStepsSo }
+    ensures may { CarriedMayStep }
+    ensures steps { StepsCarry }
+{
+    steps_are_fed();
+    reached_worlds_are_typed();
+    words_are_supplied();
+}
+
+/// So each run of such a program is the machine's: it has the same lines in the same order, the last one among them, and the same end. What it leaves stands for
+/// the last world of the machine's run, but where fuel was wanting; and where it is done, or no task can go on, that is written down as what the machine's run
+/// leaves. Of single steps two things are asked that no law gives yet: that ends stay marked where elements went over, and that the place at the reader was
+/// tested of elements that go over.
+pub fn runs_are_of_machine()
+    ensures lines { RunsAreOfMachine }
+    ensures left { RunsLeaveWorlds }
+    ensures dumps { RunsLeaveDumps }
+{
+    steps_are_fed();
+    reached_worlds_are_typed();
+    words_are_supplied();
+}
+
+/// What stands for a world, with all marks right and ends marked, is written down as the world is.
+pub fn dumps_agree()
+    ensures { DumpsAgree }
+{}
