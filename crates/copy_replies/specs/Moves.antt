@@ -21,10 +21,10 @@ use Rattle.comp_graph.specs.declared.graph.CanonFunc.{CanonFunc}
 use Rattle.comp_graph.specs.declared.graph.CanonFunc.TheVariants as canon
 use Rattle.comp_graph.specs.Graph.{Graph, passed_value}
 use Rattle.graph_views.specs.Canons.{canon_at, instance_of, options_of}
-use Rattle.trace_show.specs.declared.label.Channel as labels
-use Rattle.trace_show.specs.declared.label.Channel.TheVariants as channel
-use Rattle.trace_show.specs.declared.label.Copied.{Copied}
-use Rattle.trace_show.specs.declared.label.Label.TheVariants as line
+use Rattle.trace_labels.specs.declared.label.Channel as labels
+use Rattle.trace_labels.specs.declared.label.Channel.TheVariants as channel
+use Rattle.trace_labels.specs.declared.label.Copied.{Copied}
+use Rattle.trace_labels.specs.declared.label.Label.TheVariants as line
 use Rattle.world_parts.specs.declared.parts.Copying.{Copying}
 use Rattle.world_parts.specs.declared.parts.Flow.{Flow}
 use Rattle.world_parts.specs.Held.{Held, Done, Gives, after, given}

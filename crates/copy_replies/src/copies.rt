@@ -13,7 +13,7 @@ use graph_views::is_async;
 use instances::{EndEntry, WorldEntry};
 use std::alloc::Global;
 use stream_ends::{OpenCopy, Side};
-use trace_show::TrapName;
+use trace_labels::TrapName;
 use world_parts::{Flow, Part, Parts, Stop, word_in};
 
 /// An end of a new stream or future.

@@ -13,7 +13,7 @@ use comp_graph::{CanonFunc, Graph};
 use graph_views::canon_at;
 use laid_types::LaidType;
 use stream_ends::OpenCopy;
-use trace_show::TrapName;
+use trace_labels::TrapName;
 use world_parts::{Part, Parts, Stop};
 
 /// The type of the result or of the elements of the built-in of a number, where it has one.

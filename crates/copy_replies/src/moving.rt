@@ -16,7 +16,7 @@ use instances::{EndEntry, WorldEntry};
 use laid_types::LaidType;
 use std::alloc::Global;
 use stream_ends::{By, OpenCopy, Side};
-use trace_show::{Copied, Label};
+use trace_labels::{Copied, Label};
 use world_parts::{Copying, Flow, Part, Parts, Stop};
 
 /// One side of a copy.
@@ -225,12 +225,12 @@ pub fn moving_of(graph: &Graph<'_>, parts: &Parts, task: u32, copying: Copying) 
 }
 
 /// The stream or future of a number, in a line.
-fn channel_named(kind: EndKind, number: u32) -> trace_show::Channel
+fn channel_named(kind: EndKind, number: u32) -> trace_labels::Channel
     ensures { result ≡ channel_named kind number }
 {
     match kind {
-        EndKind::Stream => trace_show::Channel::Stream(number),
-        EndKind::Future => trace_show::Channel::Future(number),
+        EndKind::Stream => trace_labels::Channel::Stream(number),
+        EndKind::Future => trace_labels::Channel::Future(number),
     }
 }
 

@@ -16,7 +16,7 @@ use laid_types::LaidType;
 use std::alloc::Global;
 use stream_ends::{By, Meet, OpenCopy, Side};
 use tasks::BlockedAt;
-use trace_show::{BlockReason, TrapName};
+use trace_labels::{BlockReason, TrapName};
 use world_parts::{Copying, Flow, Part, Parts, Stop, block_in, word_in};
 
 /// How many elements a read or write is of at most.

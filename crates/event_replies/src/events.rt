@@ -15,7 +15,7 @@ use std::alloc::Global;
 use stream_ends::Side;
 use task_table::Words;
 use tasks::TaskEvent;
-use trace_show::Label;
+use trace_labels::Label;
 use world_parts::{Flow, Part, Parts, Receiver, Rest, Stop, tell_end, tell_subtask};
 
 /// The code of the event of an end.

@@ -14,7 +14,7 @@ use entry_gate::Kind;
 use graph_views::{flag_at, options_at};
 use std::alloc::Global;
 use tasks::BlockedAt;
-use trace_show::{BlockReason, TrapName};
+use trace_labels::{BlockReason, TrapName};
 use world_parts::{Flow, Part, Parts, Receiver, Stop, block_in, word_in};
 
 /// A task blocks at a set.

@@ -5,7 +5,7 @@ ghost use Rattle.graph_views.specs.Names.{resource_name, plain_name, context_nam
 
 use builtin_kinds::{ContextOp, EndKind, EndSide, PlainBuiltin, ResourceOp, WaitOp};
 use comp_graph::{BuiltinKind, CanonFunc, EndOp};
-use trace_show::Builtin;
+use trace_labels::Builtin;
 
 /// The name of a canonical function.
 pub fn builtin_of(canon: &CanonFunc) -> Builtin

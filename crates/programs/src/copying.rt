@@ -6,7 +6,7 @@ ghost use Rattle.programs.specs.Typed.{typed};
 use ca_base::{Memory, Name, Seq};
 use ca_types::{Boxed, Param, Value};
 use std::alloc::Global;
-use trace_show::TypedValue;
+use trace_labels::TypedValue;
 
 /// The same value. It nests as deep as its type does.
 #[cycle(copying)]

@@ -20,7 +20,7 @@ use Rattle.comp_graph.specs.declared.graph.CanonFunc.{CanonFunc}
 use Rattle.comp_graph.specs.declared.graph.CanonFunc.TheVariants as canon
 use Rattle.graph_views.specs.Names.{builtin_of}
 use Rattle.graph_views.specs.Callees.{kind_of}
-use Rattle.trace_show.specs.declared.label.Label.TheVariants as line
+use Rattle.trace_labels.specs.declared.label.Label.TheVariants as line
 use Rattle.world_parts.specs.declared.parts.Flow.{Flow}
 use Rattle.world_parts.specs.Held.{Held, Done, Stuck}
 use Rattle.world_parts.specs.Feed.{told}

@@ -11,7 +11,7 @@ use instances::WorldEntry;
 use std::alloc::Global;
 use task_table::{Called, Callee, Caller, Errand, TaskSlot, Words};
 use tasks::BlockedAt;
-use trace_show::{BlockReason, Label, TrapName};
+use trace_labels::{BlockReason, Label, TrapName};
 use world_parts::{Flow, Part, Parts, Rest, Stop, block_in, number_behind, tell_subtask};
 
 /// What a call that does not wait answers where it would block.

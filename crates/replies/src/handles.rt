@@ -14,7 +14,7 @@ use res_handles::{Handle, Ownership};
 use std::alloc::Global;
 use task_table::{Callee, Words};
 use tasks::TaskEvent;
-use trace_show::TrapName;
+use trace_labels::TrapName;
 use world_parts::{Flow, Part, Parts, Rest, Stop, word_in};
 
 /// `resource.new`: a new own handle of a resource. The trap is `TableFull`.

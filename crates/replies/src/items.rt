@@ -9,7 +9,7 @@ use ca_base::{Name, Seq};
 use entry_gate::Kind;
 use std::alloc::Global;
 use task_table::{Callee, Caller, TaskSlot};
-use trace_show::{Label, TypedValue};
+use trace_labels::{Label, TypedValue};
 use world_parts::{Flow, Part, Parts, Rest, Stop, number_behind};
 
 /// The script's next call makes a task that runs the export of a number, in an instance, with arguments.

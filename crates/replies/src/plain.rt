@@ -9,7 +9,7 @@ use comp_graph::Graph;
 use graph_views::flag_at;
 use std::alloc::Global;
 use tasks::{BlockedAt, SubtaskState, TaskEvent};
-use trace_show::{BlockReason, Label, TypedValue};
+use trace_labels::{BlockReason, Label, TypedValue};
 use world_parts::{Flow, Part, Parts, Stop, block_in, word_in, yield_cancelled};
 
 /// `context.get`: a word of context.

@@ -18,7 +18,7 @@ use comp_graph::{BuiltinKind, CanonFunc, Graph, Lift};
 use graph_views::{builtin_of, kind_of};
 use std::alloc::Global;
 use task_table::{Callee, TaskSlot};
-use trace_show::Label;
+use trace_labels::Label;
 use world_parts::{Flow, Part, Parts, Stop, same_words};
 
 /// Whether a task is there and has exited.

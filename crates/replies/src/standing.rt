@@ -8,7 +8,7 @@ ghost use Rattle.world_parts.specs.Slots.{delivered, unasked, cancellable, cance
 ghost use Rattle.world_parts.specs.Channels.{numbered};
 
 use tasks::{Asked, Cancellation};
-use trace_show::TrapName;
+use trace_labels::TrapName;
 use world_parts::{Part, Parts, Stop, place_of};
 
 /// Raises the backpressure by one. The trap is `PressureLimit`.

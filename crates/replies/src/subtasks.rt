@@ -7,7 +7,7 @@ use crate::standing::{is_delivered, request_cancel, was_never_asked};
 use std::alloc::Global;
 use task_table::Errand;
 use tasks::{Asked, SubtaskState};
-use trace_show::{Label, TrapName};
+use trace_labels::{Label, TrapName};
 use world_parts::{Flow, Part, Parts, Rest, Stop, word_in};
 
 /// A task that waits to enter resolves and exits, since it is cancelled. The run is then at `behind`.

@@ -11,7 +11,7 @@ use graph_cases::NamedGraph;
 use graph_views::canon_at;
 use replies::{begin, return_value};
 use std::alloc::{AllocError, Global};
-use trace_show::{Copied, TypedValue, TypedValues};
+use trace_labels::{Copied, TypedValue, TypedValues};
 use world_parts::{Copying, Flow, Part, Parts, Stop};
 
 /// A world that lines change.

@@ -11,7 +11,7 @@ use script_reader::{Script, ScriptFault, read_script};
 use std::alloc::Global;
 use std::test::Fail;
 use task_table::Callee;
-use trace_show::TypedValue;
+use trace_labels::TypedValue;
 use type_texts::{func_of, params_of, type_told, value_told, values_of};
 
 /// A script of three calls.

@@ -9,7 +9,8 @@ use std::alloc::{AllocError, Global};
 use std::fmt::Write;
 use stream_ends::{By, Side};
 use tasks::{Cancellation, Phase, Resolution};
-use trace_show::{Label, label_text};
+use trace_labels::Label;
+use trace_show::label_text;
 use world_parts::{Copying, Flow, Part, Parts, Rest, Stop, Turned};
 
 /// Why nothing is answered.

@@ -8,7 +8,7 @@ ghost use Rattle.return_replies.specs.Returns.{type_of, same_held, same_memory, 
 use comp_graph::{Graph, Options};
 use graph_views::lift_of;
 use laid_types::NumberedType;
-use trace_show::TrapName;
+use trace_labels::TrapName;
 use world_parts::{Part, Parts, Stop};
 
 /// Tests what a task returns by `task.return` with these options: a result of the type `given`, where its function gives one of the type

@@ -8,9 +8,10 @@ ghost use Rattle.comp_tree.specs.declared.items.Component.{Component};
 ghost use Rattle.comp_reader.specs.Binary.{IsComponent};
 ghost use Rattle.script_reader.specs.Script.{AreItems};
 ghost use Rattle.link_spec.specs.Linked.{IsLinked};
-ghost use Rattle.canonical_machine.specs.Sound.{AreBytes, IsSound};
-ghost use Rattle.canonical_machine.specs.Owners.{IsApart};
-ghost use Rattle.canonical_machine.specs.Plain.{IsPlain};
+ghost use Rattle.lowering_laws.specs.Values.{AreBytes};
+ghost use Rattle.world.specs.Sound.{IsSound};
+ghost use Rattle.world.specs.Owners.{IsApart};
+ghost use Rattle.world.specs.Plain.{IsPlain};
 ghost use Rattle.machine_runs.specs.Fit.{ModulesFit};
 
 use crate::case::{Case, Command, case_of};
@@ -20,7 +21,6 @@ use answer_texts::{
 use builtins::{Run, run_script, trace_text};
 use ca_base::{Bytes, MemoryOr, ReadError, Seq};
 use ca_io::MemSink;
-use canonical_machine::RunEnd;
 use cases::Answers;
 use comp_graph::Graph;
 use comp_link::{LinkFault, link};
@@ -40,7 +40,7 @@ use std::test::Fail;
 use sync_items::runs_synchronously;
 use trace_show::Trace;
 use value_moves::{ValueMoves, passes_stay_fit};
-use world::dump_text;
+use world::{RunEnd, dump_text};
 
 /// How many bytes the trace of a case may have.
 const ROOM: usize = 1024 * 1024;

@@ -14,7 +14,7 @@ use std::alloc::Global;
 use std::test::Fail;
 use table_texts::number;
 use task_table::Callee;
-use trace_show::TypedValue;
+use trace_labels::TypedValue;
 use type_texts::value_told;
 use value_parts::{Origin, lift_arguments, lift_elements, lift_ended, lift_returned};
 use world_parts::{Part, Parts};

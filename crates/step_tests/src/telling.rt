@@ -3,7 +3,8 @@
 use std::alloc::Global;
 use std::fmt::Write;
 use std::test::Fail;
-use trace_show::{Label, label_text};
+use trace_labels::Label;
+use trace_show::label_text;
 use world_parts::{Parts, Stop};
 
 /// Why something stops.

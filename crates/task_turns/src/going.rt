@@ -7,7 +7,7 @@ ghost use Rattle.world_parts.specs.Going.{arrives, waits_to_enter, unwaited, unw
 use crate::gates::{enter_gate, may_enter, resolution_of, wait_at_gate};
 use entry_gate::{BadCode, Next, read_callback};
 use tasks::{BlockedAt, Phase, SubtaskState, TaskEvent};
-use trace_show::{BlockReason, Label, TrapName};
+use trace_labels::{BlockReason, Label, TrapName};
 use world_parts::{Flow, Part, Parts, Rest, Stop, block};
 
 /// The acting task, which is new, enters, or waits to.

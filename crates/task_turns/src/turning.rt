@@ -4,7 +4,7 @@ ghost use Rattle.std.specs.Prelude.{◌≡◌, IfSome};
 ghost use Rattle.world_parts.specs.Held.{Does};
 ghost use Rattle.world_parts.specs.Turning.{gone, goes, task_gone, taken, turns_by, count_of, task_at};
 
-use trace_show::Label;
+use trace_labels::Label;
 use world_parts::{Part, Parts, Rest, Stop, Turned};
 
 /// A task goes on, by its line.

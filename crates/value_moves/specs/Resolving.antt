@@ -8,7 +8,7 @@ use Rattle.graph_views.specs.Canons.{options_at}
 use Rattle.laid_types.specs.Known.{Numbered, numbered_at}
 use Rattle.programs.specs.Program.{returned_of, value_of}
 use Rattle.programs.specs.declared.program.Program.{Program}
-use Rattle.trace_show.specs.declared.typed.TypedValue.{TypedValue}
+use Rattle.trace_labels.specs.declared.typed.TypedValue.{TypedValue}
 use Rattle.world_parts.specs.declared.parts.Parts.{Parts}
 use Rattle.world_parts.specs.declared.parts.Flow.{Flow}
 use Rattle.world_parts.specs.declared.parts.Stop.{Stop}

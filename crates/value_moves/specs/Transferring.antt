@@ -5,8 +5,8 @@ use Rattle.ca_types.specs.declared.value.Value.{Value}
 use Rattle.laid_types.specs.Known.{Numbered, numbered_at}
 use Rattle.copy_replies.specs.declared.moving.Moving.{Moving}
 use Rattle.copy_replies.specs.Moves.{moving, completed}
-use Rattle.trace_show.specs.declared.label.Copied.{Copied}
-use Rattle.trace_show.specs.declared.label.Copied.TheVariants.{Units, Values}
+use Rattle.trace_labels.specs.declared.label.Copied.{Copied}
+use Rattle.trace_labels.specs.declared.label.Copied.TheVariants.{Units, Values}
 use Rattle.programs.specs.declared.program.Program.{Program}
 use Rattle.programs.specs.Program.{value_of}
 use Rattle.value_parts.specs.declared.lifting.Origin.{Origin}

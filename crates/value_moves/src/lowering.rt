@@ -28,7 +28,7 @@ use programs::Program;
 use res_handles::Home;
 use std::alloc::Global;
 use task_table::Words;
-use trace_show::{Label, TrapName};
+use trace_labels::{Label, TrapName};
 use value_lower::LowerWhy;
 use wasm_store::Store;
 use world_parts::{Part, Parts, Stop, refusal_name, same_words};

@@ -16,7 +16,7 @@ use programs::{Program, same_value};
 use replies::return_value;
 use return_replies::check_return;
 use std::alloc::Global;
-use trace_show::TypedValue;
+use trace_labels::TypedValue;
 use value_parts::{lift_ended, lift_returned};
 use world_parts::{Flow, Part, Parts, Stop};
 use world_stacks::post_return;

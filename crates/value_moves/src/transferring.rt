@@ -14,7 +14,7 @@ use copy_replies::{Moving, complete, moving_of};
 use laid_types::NumberedType;
 use programs::Program;
 use std::alloc::Global;
-use trace_show::{Copied, TypedValues};
+use trace_labels::{Copied, TypedValues};
 use value_parts::{Origin, lift_elements};
 use world_parts::{Copying, Flow, Part, Parts, Stop};
 

@@ -10,7 +10,7 @@ use Rattle.task_table.specs.declared.refusal.LendError.TheVariants.{NoCall, Memo
 use Rattle.task_table.specs.declared.slot.TaskSlot.{TaskSlot}
 use Rattle.task_table.specs.Callers.{with_lend}
 use Rattle.task_table.specs.Slots.{with_called}
-use Rattle.trace_show.specs.declared.label.Label.TheVariants as line
+use Rattle.trace_labels.specs.declared.label.Label.TheVariants as line
 use Rattle.value_lift.specs.declared.moved.Moved.{Moved}
 use Rattle.value_lift.specs.declared.moved.Moved.TheVariants.{Lent, Taken}
 use Rattle.world_parts.specs.Held.{Held, Done, Gives, Stuck, after, given}

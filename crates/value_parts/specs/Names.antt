@@ -1,8 +1,8 @@
 -- The names of traps of lifting (Component Model, CanonicalABI.md, "Loading").
 use Rattle.value_lift.specs.declared.trap.LiftWhy.{LiftWhy}
 use Rattle.value_lift.specs.declared.trap.LiftWhy.TheVariants as lift_why
-use Rattle.trace_show.specs.declared.trap.TrapName.{TrapName}
-use Rattle.trace_show.specs.declared.trap.TrapName.TheVariants as trap
+use Rattle.trace_labels.specs.declared.trap.TrapName.{TrapName}
+use Rattle.trace_labels.specs.declared.trap.TrapName.TheVariants as trap
 use Rattle.world_parts.specs.Names.{refusal_name}
 
 abbrev pub lift_name : LiftWhy → TrapName

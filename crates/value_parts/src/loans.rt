@@ -4,7 +4,7 @@ ghost use Rattle.world_parts.specs.Held.{Does};
 ghost use Rattle.value_parts.specs.Loans.{LentGives, lend_kept, lent, one_moved, all_moved};
 
 use task_table::{LendError, TaskSlot};
-use trace_show::Label;
+use trace_labels::Label;
 use value_lift::Moved;
 use world_parts::{Part, Parts, Stop, number_behind};
 

@@ -3,7 +3,7 @@
 ghost use Rattle.std.specs.Prelude.{◌≡◌};
 ghost use Rattle.value_parts.specs.Names.{lift_name};
 
-use trace_show::TrapName;
+use trace_labels::TrapName;
 use value_lift::LiftWhy;
 use world_parts::refusal_name;
 

@@ -16,7 +16,7 @@ use laid_types::NumberedType;
 use programs::{Program, same_values};
 use std::alloc::Global;
 use task_table::Caller;
-use trace_show::TypedValue;
+use trace_labels::TypedValue;
 use value_lift::LiftOf;
 use world_parts::{Part, Parts, Stop, same_words};
 

@@ -20,14 +20,14 @@ use Rattle.instances.specs.declared.entry.EndEntry.{EndEntry}
 use Rattle.instances.specs.declared.entry.WorldEntry.{WorldEntry}
 use Rattle.instances.specs.declared.entry.WorldEntry.TheVariants as entry
 use Rattle.instances.specs.Instances.{InstanceView}
-use Rattle.trace_show.specs.declared.dump.Entry as shown
-use Rattle.trace_show.specs.declared.dump.Entry.TheVariants as show
-use Rattle.trace_show.specs.declared.dump.EndState.{EndState}
-use Rattle.trace_show.specs.declared.dump.EndState.TheVariants.{Idle, Copying, Done}
-use Rattle.trace_show.specs.declared.dump.Side.{Side}
-use Rattle.trace_show.specs.declared.dump.Side.TheVariants.{Readable, Writable}
-use Rattle.trace_show.specs.declared.label.Channel as labels
-use Rattle.trace_show.specs.declared.label.Channel.TheVariants as channel
+use Rattle.trace_labels.specs.declared.dump.Entry as shown
+use Rattle.trace_labels.specs.declared.dump.Entry.TheVariants as show
+use Rattle.trace_labels.specs.declared.dump.EndState.{EndState}
+use Rattle.trace_labels.specs.declared.dump.EndState.TheVariants.{Idle, Copying, Done}
+use Rattle.trace_labels.specs.declared.dump.Side.{Side}
+use Rattle.trace_labels.specs.declared.dump.Side.TheVariants.{Readable, Writable}
+use Rattle.trace_labels.specs.declared.label.Channel as labels
+use Rattle.trace_labels.specs.declared.label.Channel.TheVariants as channel
 use Rattle.world_parts.specs.Held.{Held}
 use Rattle.world_parts.specs.Channels.{kind_of_end, channel_of}
 

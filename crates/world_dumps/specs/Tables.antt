@@ -5,7 +5,7 @@ use Rattle.std.specs.List.{flat_map}
 use Rattle.std.specs.Option.{option_map}
 use Rattle.handle_table.specs.Slots.{live_indices}
 use Rattle.instances.specs.Instances.{InstanceView, entry_of}
-use Rattle.trace_show.specs.declared.dump.LiveEntry.{LiveEntry}
+use Rattle.trace_labels.specs.declared.dump.LiveEntry.{LiveEntry}
 use Rattle.trace_show.specs.DumpText.{dump_text}
 use Rattle.world_parts.specs.Held.{Held}
 use Rattle.world_dumps.specs.Entries.{entry_shown}

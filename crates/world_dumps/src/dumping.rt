@@ -7,7 +7,7 @@ ghost use Rattle.world_dumps.specs.Tables.{dump_of};
 use crate::tables::tables_shown;
 use ca_base::{Bytes, Memory, Seq};
 use std::alloc::Global;
-use trace_show::Dump;
+use trace_labels::Dump;
 use wasm_store::Store;
 use world_parts::Parts;
 

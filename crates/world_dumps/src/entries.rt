@@ -11,16 +11,16 @@ use channels::Channel;
 use instances::{EndEntry, Instance, WorldEntry};
 use res_handles::{Handle, Ownership};
 use std::alloc::Global;
-use trace_show::{EndState, Entry};
+use trace_labels::{EndState, Entry};
 use world_parts::Parts;
 
 /// Which end it is.
-fn side_of(side: stream_ends::Side) -> trace_show::Side
+fn side_of(side: stream_ends::Side) -> trace_labels::Side
     ensures { result ≡ side_of side }
 {
     match side {
-        stream_ends::Side::Reader => trace_show::Side::Readable,
-        stream_ends::Side::Writer => trace_show::Side::Writable,
+        stream_ends::Side::Reader => trace_labels::Side::Readable,
+        stream_ends::Side::Writer => trace_labels::Side::Writable,
     }
 }
 
@@ -43,12 +43,12 @@ fn end_state(channel: Option<&Channel>, side: stream_ends::Side) -> EndState
 }
 
 /// The stream or future of a number.
-fn channel_named(kind: EndKind, number: u32) -> trace_show::Channel
+fn channel_named(kind: EndKind, number: u32) -> trace_labels::Channel
     ensures { result ≡ channel_named kind number }
 {
     match kind {
-        EndKind::Stream => trace_show::Channel::Stream(number),
-        EndKind::Future => trace_show::Channel::Future(number),
+        EndKind::Stream => trace_labels::Channel::Stream(number),
+        EndKind::Future => trace_labels::Channel::Future(number),
     }
 }
 

@@ -8,7 +8,7 @@ use crate::entries::entry_shown;
 use ca_base::{Memory, Seq};
 use instances::Instance;
 use std::alloc::Global;
-use trace_show::LiveEntry;
+use trace_labels::LiveEntry;
 use world_parts::Parts;
 
 /// What stands at an index of the table of an instance, with the index.

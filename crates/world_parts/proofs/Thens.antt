@@ -1,7 +1,7 @@
 -- Parts behind parts.
 use Rattle.std.proofs.Common.{◌≡◌, ap, ◌∙◌}
 use Rattle.world_parts.specs.Held.{Held, Done, Gives, Traps, Spent, Stuck, after}
-use Rattle.trace_show.specs.declared.trap.TrapName.{TrapName}
+use Rattle.trace_labels.specs.declared.trap.TrapName.{TrapName}
 
 pub then_gives : {A B : Type 0} (d : Done A) (x : A) (h : Held) (f : A → Held → Done B) (out : Done B) → d ≡ Gives x h → f x h ≡ out → after d f ≡ out
 then_gives d x h f out e k = ap (λ d. after d f) e ∙ k

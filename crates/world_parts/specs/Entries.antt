@@ -18,7 +18,7 @@ use Rattle.instances.specs.Entries.{subtask_in, set_in, waitable_in, end_in, any
 use Rattle.instances.specs.Instances as instance
 use Rattle.instances.specs.Instances.{InstanceView, entry_of, view_of, lends_of, with_sets}
 use Rattle.instances.specs.Calls.{is_there, has_waiter, dropped_set}
-use Rattle.trace_show.specs.declared.trap.TrapName.TheVariants as trap
+use Rattle.trace_labels.specs.declared.trap.TrapName.TheVariants as trap
 use Rattle.world_parts.specs.Names.{refusal_name, set_name}
 use Rattle.world_parts.specs.Held.{Held, Done, Gives, Traps, Stuck, given}
 

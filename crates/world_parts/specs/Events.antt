@@ -14,7 +14,7 @@ use Rattle.instances.specs.declared.entry.WorldEntry.{WorldEntry}
 use Rattle.instances.specs.declared.entry.WorldEntry.TheVariants as entry
 use Rattle.comp_graph.specs.declared.graph.Lift.{Lift}
 use Rattle.world_parts.specs.Views.{Views}
-use Rattle.trace_show.specs.declared.label.Label.TheVariants as line
+use Rattle.trace_labels.specs.declared.label.Label.TheVariants as line
 use Rattle.world_parts.specs.declared.parts.Rest.TheVariants as rest
 use Rattle.world_parts.specs.declared.parts.Receiver.{Receiver}
 use Rattle.world_parts.specs.declared.parts.Receiver.TheVariants as receiver

@@ -6,8 +6,8 @@ use Rattle.tasks.specs.declared.event.TaskTrap.{TaskTrap}
 use Rattle.tasks.specs.declared.event.TaskTrap.TheVariants as task_trap
 use Rattle.waitables.specs.declared.refusal.SetRefusal.{SetRefusal}
 use Rattle.waitables.specs.declared.refusal.SetRefusal.TheVariants as set_refusal
-use Rattle.trace_show.specs.declared.trap.TrapName.{TrapName}
-use Rattle.trace_show.specs.declared.trap.TrapName.TheVariants as trap
+use Rattle.trace_labels.specs.declared.trap.TrapName.{TrapName}
+use Rattle.trace_labels.specs.declared.trap.TrapName.TheVariants as trap
 
 abbrev pub refusal_name : Refusal → TrapName
 refusal_name refusal.Absent = trap.Absent

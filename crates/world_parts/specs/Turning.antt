@@ -20,8 +20,8 @@ use Rattle.task_table.specs.declared.slot.TaskSlot.{TaskSlot}
 use Rattle.task_table.specs.Slots.{new_slot, is_to_be_told}
 use Rattle.instances.specs.Instances.{InstanceView}
 use Rattle.world_parts.specs.Views.{Views}
-use Rattle.trace_show.specs.declared.label.Label.TheVariants as line
-use Rattle.trace_show.specs.declared.typed.TypedValue.{TypedValue}
+use Rattle.trace_labels.specs.declared.label.Label.TheVariants as line
+use Rattle.trace_labels.specs.declared.typed.TypedValue.{TypedValue}
 use Rattle.world_parts.specs.declared.parts.Rest.TheVariants as rest
 use Rattle.world_parts.specs.declared.parts.Turned.{Turned}
 use Rattle.world_parts.specs.declared.parts.Turned.TheVariants as turned

@@ -11,7 +11,7 @@ use instances::EndEntry;
 use std::alloc::Global;
 use task_table::Errand;
 use tasks::{BlockedAt, TaskEvent};
-use trace_show::{BlockReason, Label};
+use trace_labels::{BlockReason, Label};
 
 /// Lets a task block, with or without the flag of its canonical function. Control goes to the task before it.
 #[tactic(auto, unfolding(crate::specs::Calls::blocked), using(crate::proofs::Thens::thens))]

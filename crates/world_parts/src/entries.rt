@@ -9,7 +9,7 @@ use crate::parts::{Part, Parts, Stop};
 use instances::{EndEntry, WorldEntry};
 use res_handles::LowerError;
 use stream_ends::Side;
-use trace_show::TrapName;
+use trace_labels::TrapName;
 
 /// The task that an entry is a subtask of.
 fn subtask_number(entry: Option<WorldEntry>) -> Option<u32>

@@ -8,7 +8,7 @@ use crate::parts::{Flow, Part, Parts, Rest, Stop};
 use ca_base::Memory;
 use std::alloc::Global;
 use task_table::Words;
-use trace_show::Label;
+use trace_labels::Label;
 
 /// The same words.
 pub fn same_words(alloc: Global, words: &[u64]) -> Result<Words, Memory>

@@ -5,7 +5,7 @@ ghost use Rattle.world_parts.specs.Names.{refusal_name, task_name, set_name};
 
 use res_handles::Refusal;
 use tasks::TaskTrap;
-use trace_show::TrapName;
+use trace_labels::TrapName;
 use waitables::SetRefusal;
 
 /// The name of the reason why an index is refused.

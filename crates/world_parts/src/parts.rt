@@ -6,7 +6,7 @@ use choices::Picks;
 use comp_graph::FuncRef;
 use instances::Instance;
 use task_table::{Tasks, Words};
-use trace_show::{Label, TrapName};
+use trace_labels::{Label, TrapName};
 use wasm_store::Store;
 
 /// Where a run is between its steps.

@@ -16,7 +16,7 @@ use Rattle.comp_graph.specs.Graph.{CoreMake, Graph}
 use Rattle.instances.specs.Instances.{new_instance}
 use Rattle.tasks.specs.declared.event.TaskEvent.TheVariants.{Exit}
 use Rattle.task_table.specs.declared.errand.Errand.TheVariants as errand
-use Rattle.trace_show.specs.declared.trap.TrapName.TheVariants as trap
+use Rattle.trace_labels.specs.declared.trap.TrapName.TheVariants as trap
 use Rattle.world_parts.specs.declared.parts.Rest.TheVariants as rest
 use Rattle.world_parts.specs.declared.parts.Stop.{Stop}
 use Rattle.world_parts.specs.declared.parts.Stop.TheVariants as stop

@@ -21,8 +21,8 @@ use Rattle.comp_graph.specs.Graph.{Graph}
 use Rattle.graph_views.specs.Canons.{canon_at, is_made_in}
 use Rattle.graph_views.specs.Names.{builtin_of}
 use Rattle.task_table.specs.declared.slot.TaskSlot.{TaskSlot}
-use Rattle.trace_show.specs.declared.label.Label.TheVariants as line
-use Rattle.trace_show.specs.declared.trap.TrapName.TheVariants as trap
+use Rattle.trace_labels.specs.declared.label.Label.TheVariants as line
+use Rattle.trace_labels.specs.declared.trap.TrapName.TheVariants as trap
 use Rattle.world_parts.specs.declared.parts.Parts.{Parts}
 use Rattle.world_parts.specs.declared.parts.Rest.TheVariants as rest
 use Rattle.world_parts.specs.declared.parts.Stop.{Stop}

@@ -9,7 +9,7 @@ use Rattle.wasm_execution.specs.declared.running.Outcome.TheVariants as outcome
 use Rattle.tasks.specs.Tasks.{is_acting}
 use Rattle.task_table.specs.declared.errand.Errand.{Errand}
 use Rattle.task_table.specs.declared.errand.Errand.TheVariants as errand
-use Rattle.trace_show.specs.declared.label.Label.TheVariants as line
+use Rattle.trace_labels.specs.declared.label.Label.TheVariants as line
 use Rattle.world_parts.specs.declared.parts.Parts.{Parts}
 use Rattle.world_parts.specs.declared.parts.Rest.TheVariants as rest
 use Rattle.world_parts.specs.declared.parts.Stop.{Stop}

@@ -18,7 +18,7 @@ use instances::Instance;
 use std::alloc::Global;
 use task_table::Errand;
 use tasks::TaskEvent;
-use trace_show::TrapName;
+use trace_labels::TrapName;
 use wasm_code::External;
 use wasm_store::{AddFault, Store};
 use wasm_typing::Valid;

@@ -3,7 +3,7 @@
 ghost use Rattle.std.specs.Prelude.{◌≡◌};
 ghost use Rattle.world_stacks.specs.Names.{core_name};
 
-use trace_show::TrapName;
+use trace_labels::TrapName;
 use wasm_store::Trap;
 
 /// The name of a trap of an instruction (Core 2.0, section 4.4).

@@ -13,7 +13,7 @@ use comp_graph::{CanonFunc, FuncRef, Graph};
 use graph_views::{builtin_of, canon_at, is_made_in};
 use std::alloc::Global;
 use task_table::Words;
-use trace_show::{Label, TrapName};
+use trace_labels::{Label, TrapName};
 use wasm_execution::{Outcome, Running, Suspended, run};
 use world_parts::{Part, Parts, Rest, Stop, same_words};
 

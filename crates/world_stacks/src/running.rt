@@ -16,7 +16,7 @@ use crate::top::Top;
 use std::alloc::Global;
 use task_table::{Errand, Words};
 use tasks::Phase;
-use trace_show::Label;
+use trace_labels::Label;
 use wasm_execution::{Outcome, run};
 use world_parts::{Part, Parts, Rest, Stop};
 

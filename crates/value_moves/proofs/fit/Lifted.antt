@@ -26,7 +26,7 @@ use Rattle.graph_views.specs.Canons.{canon_at, instance_of, options_of, options_
 use Rattle.graph_views.specs.Callees.{lift_of}
 use Rattle.task_table.specs.declared.caller.Caller.{Caller}
 use Rattle.task_table.specs.declared.caller.Caller.TheVariants.{Nobody, Host, Guest}
-use Rattle.trace_show.specs.declared.typed.TypedValue.{TypedValue}
+use Rattle.trace_labels.specs.declared.typed.TypedValue.{TypedValue}
 use Rattle.programs.specs.declared.program.Program.{Program}
 use Rattle.programs.specs.Program.{params_of, returned_of, value_of, host_values}
 use Rattle.instances.specs.declared.entry.WorldEntry.{WorldEntry}

@@ -14,8 +14,8 @@ use Rattle.task_table.specs.declared.errand.Callee.{Callee}
 use Rattle.task_table.specs.declared.errand.Callee.TheVariants as callee
 use Rattle.programs.specs.declared.program.Program.{Program}
 use Rattle.programs.specs.Program.{value_of}
-use Rattle.trace_show.specs.declared.label.Copied.TheVariants.{Units}
-use Rattle.trace_show.specs.declared.typed.TypedValue.{TypedValue}
+use Rattle.trace_labels.specs.declared.label.Copied.TheVariants.{Units}
+use Rattle.trace_labels.specs.declared.typed.TypedValue.{TypedValue}
 use Rattle.world_parts.specs.declared.parts.Copying.{Copying}
 use Rattle.world_parts.specs.declared.parts.Flow.{Flow}
 use Rattle.world_parts.specs.declared.parts.Flow.TheVariants as flow

@@ -8,7 +8,7 @@ use Rattle.laid_types.specs.SameTypes.{same_val, AreDistinct}
 use Rattle.comp_graph.specs.declared.graph.Options.{Options}
 use Rattle.comp_graph.specs.Graph.{Graph}
 use Rattle.graph_views.specs.Callees.{lift_of}
-use Rattle.trace_show.specs.declared.trap.TrapName.TheVariants as trap
+use Rattle.trace_labels.specs.declared.trap.TrapName.TheVariants as trap
 use Rattle.world_parts.specs.Held.{Held, Done, Gives, Traps, after, given}
 use Rattle.world_parts.specs.Slots.{callee_of}
 use Rattle.world_parts.specs.Places.{memory_of}

@@ -3,8 +3,8 @@ use Rattle.std.proofs.Common.{◌≡◌, refl, Some}
 use Rattle.std.specs.Prelude.{ℕ, ◌+◌, ◌-◌, nat_lt, nat_eq, if◌then◌else◌, List, [], ◌∷◌, ◌++◌, length, take}
 use Rattle.std.specs.List.{slice_get}
 use Rattle.choices.specs.Choosing.{picked, left}
-use Rattle.trace_show.specs.declared.label.Label.{Label}
-use Rattle.trace_show.specs.declared.label.Label.TheVariants as line
+use Rattle.trace_labels.specs.declared.label.Label.{Label}
+use Rattle.trace_labels.specs.declared.label.Label.TheVariants as line
 use Rattle.world_parts.specs.declared.parts.Rest.{Rest}
 use Rattle.world_parts.specs.declared.parts.Rest.TheVariants as rest
 use Rattle.world_parts.specs.declared.parts.Flow.{Flow}

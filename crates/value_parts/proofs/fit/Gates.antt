@@ -6,7 +6,7 @@ use Rattle.entry_gate.specs.declared.kind.Kind.{Kind}
 use Rattle.entry_gate.specs.Gates as gate
 use Rattle.entry_gate.specs.Gates.{is_free, with_wait, without_wait, given_up, held_by, with_pressure}
 use Rattle.instances.specs.Instances.{with_gate}
-use Rattle.trace_show.specs.declared.trap.TrapName.TheVariants as trap
+use Rattle.trace_labels.specs.declared.trap.TrapName.TheVariants as trap
 use Rattle.world_parts.specs.Held.{Held, Done, Gives, Traps, Stuck, given}
 use Rattle.world_parts.specs.Entries.{with_instance}
 use Rattle.instances.specs.Instances.{InstanceView}
