@@ -12,9 +12,15 @@ use Rattle.abi_machine.specs.Run.{Reaches}
 use Rattle.abi_machine.specs.sound.EndsPassed.{ScriptPassesNoEnd}
 use Rattle.abi_machine.specs.sound.Owners.{IsApart}
 
+-- An end stands once in all tables together.
+abbrev pub EndsStandOnce : World → Type 0
+EndsStandOnce w =
+    (at index n m : ℕ) (e d : EndRef) → entry_at w at index ≡ Some (OfEnd e) → entry_at w n m ≡ Some (OfEnd d) → d.kind ≡ e.kind → d.number ≡ e.number → d.side ≡ e.side
+    → (at ≡ n) × (index ≡ m)
+
+-- And it was not dropped.
 pub record EndsAreKnown (w : World) : Type 0 where
-  pub once : (at index n m : ℕ) (e d : EndRef) → entry_at w at index ≡ Some (OfEnd e) → entry_at w n m ≡ Some (OfEnd d) → d.kind ≡ e.kind → d.number ≡ e.number → d.side ≡ e.side
-      → (at ≡ n) × (index ≡ m)
+  pub once : EndsStandOnce w
   pub live : (at index : ℕ) (e : EndRef) → entry_at w at index ≡ Some (OfEnd e) → (end_of w e).dropped ≡ false
 
 abbrev pub ReachedEndsAreKnown : Type 0

@@ -6,12 +6,12 @@ use Rattle.std.specs.List.{slice_get}
 use Rattle.comp_graph.specs.Graph.{Graph, Lifted}
 use Rattle.script_reader.specs.Script.{Script}
 use Rattle.trace_labels.specs.declared.label.Label.{Label}
-use Rattle.abi_machine.specs.Control.{EndRef}
-use Rattle.abi_machine.specs.World.{OfEnd, AfterCancel, Task, World, first_world}
-use Rattle.abi_machine.specs.Reading.{entry_at, func_of}
+use Rattle.abi_machine.specs.World.{AfterCancel, Task, World, first_world}
+use Rattle.abi_machine.specs.Reading.{func_of}
 use Rattle.abi_machine.specs.Run.{Reaches}
 use Rattle.abi_machine.specs.sound.EndsPassed.{ScriptPassesNoEnd}
 use Rattle.abi_machine.specs.sound.Owners.{IsApart}
+use Rattle.reach_laws.specs.KnownEnds.{EndsStandOnce}
 use Rattle.standing.specs.Ends.{HasLiveEnds}
 use Rattle.standing.specs.News.{CopiesWait}
 use Rattle.run_laws.specs.Supplied.{SubtasksAreCalledOut, CancelsOthers}
@@ -24,8 +24,7 @@ pub record IsSuppliedWorld (g : Graph) (w : World) : Type 0 where
       → CalledFrom w f.instance callee
   pub copies : (at : ℕ) → CopiesWait g w at
   pub ends : (at : ℕ) → HasLiveEnds w at
-  pub once : (at index n m : ℕ) (e d : EndRef) → entry_at w at index ≡ Some (OfEnd e) → entry_at w n m ≡ Some (OfEnd d) → d.kind ≡ e.kind → d.number ≡ e.number → d.side ≡ e.side
-      → (at ≡ n) × (index ≡ m)
+  pub once : EndsStandOnce w
 
 abbrev pub WorldsAreSupplied : Type 0
 WorldsAreSupplied = (g : Graph) (s : Script) (steps : List (List Label)) (w : World) → IsApart g → ScriptPassesNoEnd s → Reaches g s (first_world g) steps w → IsSuppliedWorld g w

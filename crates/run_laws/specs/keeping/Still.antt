@@ -38,9 +38,8 @@ use Rattle.standing.specs.KeptMarks.{HasMarks}
 use Rattle.standing.specs.Stands.{Stands}
 use Rattle.abi_machine.specs.sound.EndsPassed.{ends_of, ScriptPassesNoEnd}
 use Rattle.run_laws.specs.keeping.Steps.{StepsSo}
-use Rattle.abi_machine.specs.Control.{EndRef}
-use Rattle.abi_machine.specs.World.{OfEnd, World}
-use Rattle.abi_machine.specs.Reading.{entry_at}
+use Rattle.reach_laws.specs.KnownEnds.{EndsStandOnce}
+use Rattle.abi_machine.specs.World.{World}
 use Rattle.run_laws.specs.Answering.{HasTypes}
 use Rattle.run_laws.specs.Reached.{StandsReached}
 use Rattle.run_laws.specs.Supplied.{KeepsMemories, PlacesAreKept}
@@ -156,14 +155,9 @@ TypesTellKinds =
     (g : Graph) (values : List ValType) (funcs : List FuncType) (types : List (Option ℕ)) → HasTypes g values funcs types → TypesFit g types (kind_among values)
 
 -- Of what stands for a world in which each end stands once all of this is so, where ends are marked.
-abbrev pub WorldEndsOnce : World → Type 0
-WorldEndsOnce w =
-    (at index n m : ℕ) (e d : EndRef) → entry_at w at index ≡ Some (OfEnd e) → entry_at w n m ≡ Some (OfEnd d) → d.kind ≡ e.kind → d.number ≡ e.number → d.side ≡ e.side
-    → (at ≡ n) × (index ≡ m)
-
 abbrev pub EndsStandKept : Type 0
 EndsStandKept =
-    (g : Graph) (values : List ValType) (s : Script) (h : Held) (stacks : List (List Stack)) (w : World) → Stands g values s h stacks w → WorldEndsOnce w → HasMarkedEnds h
+    (g : Graph) (values : List ValType) (s : Script) (h : Held) (stacks : List (List Stack)) (w : World) → Stands g values s h stacks w → EndsStandOnce w → HasMarkedEnds h
     → EndsKept (kind_among values) h
 
 -- Ends are marked behind a step in which values of a task are passed, arguments or a result, where they are kept before it, and marks are: types of values are distinct, and the

@@ -21,7 +21,8 @@ use Rattle.abi_machine.proofs.sound.Found.{some_same}
 use Rattle.standing.specs.Instances.{EndStands, IsOfKind, end_entry}
 use Rattle.standing.specs.Stands.{ChannelStands, Stands}
 use Rattle.standing.proofs.Lists.{IsFound, found_both, found_left}
-use Rattle.run_laws.specs.keeping.Still.{kind_of_type, kind_among, AreOf, EndsOnce, WorldEndsOnce, TypesTellKinds, EndsStandKept}
+use Rattle.reach_laws.specs.KnownEnds.{EndsStandOnce}
+use Rattle.run_laws.specs.keeping.Still.{kind_of_type, kind_among, AreOf, EndsOnce, TypesTellKinds, EndsStandKept}
 use Rattle.run_laws.proofs.supplied.Found.{entry_shown}
 
 -- The kind is told by the type of ends.
@@ -53,7 +54,7 @@ channels_of values k all channels zip place c there =
     let f : IsFound (ChannelStands values k) (slice_get all place) (slice_get channels place) = found_left (ChannelStands values k) all channels place c zip there in
     kind_told values c.end_type k f.right.element (subst (λ (x : kept.Channel). ChannelStands values k x f.right) (some_same (sym f.is_left ∙ there)) f.alike).typed
 
-module _ (g : Graph) (values : List ValType) (s : Script) (h : Held) (stacks : List (List Stack)) (w : World) (st : Stands g values s h stacks w) (alone : WorldEndsOnce w) where
+module _ (g : Graph) (values : List ValType) (s : Script) (h : Held) (stacks : List (List Stack)) (w : World) (st : Stands g values s h stacks w) (alone : EndsStandOnce w) where
   once : EndsOnce h.instances
   once at index n m i j e d here stood there other number type side =
       let a = entry_shown g values s h stacks w st at index i (entry.End e) here stood in
