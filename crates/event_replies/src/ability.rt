@@ -6,7 +6,7 @@ ghost use Rattle.std.specs.Option.{option_copied};
 ghost use Rattle.tasks.specs.declared.event.BlockedAt.TheVariants as blocked_at;
 ghost use Rattle.world_parts.specs.Held.{held};
 ghost use Rattle.world_parts.specs.News.{index_is_ready};
-ghost use Rattle.world_parts.specs.Turning.{gate_lets, gate_is_free, loop_is_over, wait_is_over, slot_is_able, is_able, lets_in, candidates, able};
+ghost use Rattle.world_parts.specs.Turning.{gate_lets, gate_is_free, loop_is_over, wait_is_over, slot_is_able, is_able, lets_in, lets_others_in, candidates, able};
 ghost use Rattle.event_replies.specs.Seen.{seen};
 
 use crate::news::{index_is_ready, is_pending_at, is_resolved_at, task_is_resolved};
@@ -196,6 +196,25 @@ fn any_lets_in(instances: &[Instance]) -> bool
     false
 }
 
+/// Whether the gate of an instance at which a task waits lets one in that does not need exclusive entry.
+fn lets_others_in(instance: &Instance) -> bool
+    ensures { result ≡ lets_others_in instance.now }
+{
+    instance.has_waiting() && instance.may_enter(Kind::Stackful, false)
+}
+
+/// Whether the gate of one of these instances does.
+fn any_lets_others_in(instances: &[Instance]) -> bool
+    ensures { result ≡ list_any lets_others_in instances.now }
+{
+    for instance in instances {
+        if lets_others_in(instance) {
+            return true;
+        }
+    }
+    false
+}
+
 /// These numbers as a list.
 fn list_of(alloc: Global, numbers: &BTreeSet<u32>) -> Result<Nums, Memory>
     ensures { IfOk result (λ list. list ≡ numbers.now.keys) }
@@ -204,14 +223,17 @@ fn list_of(alloc: Global, numbers: &BTreeSet<u32>) -> Result<Nums, Memory>
     Ok(Nums::from_vec(list))
 }
 
-/// The tasks that are looked at: where no gate lets one in that waits for exclusive entry, none that does.
+/// The tasks that are looked at: where no gate lets one in that waits for exclusive entry, none that does, and where all gates at which tasks wait
+/// have backpressure, none that waits to enter.
 fn candidates(alloc: Global, parts: &Parts) -> Result<Nums, Memory>
     ensures { IfOk result (λ tasks. tasks ≡ candidates (held parts.now)) }
 {
     if any_lets_in(&parts.instances) {
         list_of(alloc, &parts.tasks.live)
-    } else {
+    } else if any_lets_others_in(&parts.instances) {
         list_of(alloc, &parts.tasks.watched)
+    } else {
+        list_of(alloc, &parts.tasks.awake)
     }
 }
 

@@ -26,7 +26,7 @@ first_held g s = record {
   instances = [];
   tasks = first_slot ∷ [];
   live = 0 ∷ [];
-  watched = 0 ∷ [];
+  watched = record { all = 0 ∷ []; awake = 0 ∷ [] };
   calls = [];
   streams = [];
   futures = [];

@@ -52,6 +52,7 @@ fn first_tasks(alloc: Global) -> Result<Tasks, Memory>
     ensures slots { IfOk result (λ tasks. tasks.slots.items ≡ first_slot ∷ []) }
     ensures live { IfOk result (λ tasks. tasks.live.keys ≡ 0 ∷ []) }
     ensures watched { IfOk result (λ tasks. tasks.watched.keys ≡ 0 ∷ []) }
+    ensures awake { IfOk result (λ tasks. tasks.awake.keys ≡ 0 ∷ []) }
     ensures calls { IfOk result (λ tasks. tasks.calls.items ≡ []) }
 {
     let mut tasks = Tasks::new(alloc);

@@ -11,7 +11,7 @@ use Rattle.task_table.specs.Slots as slots
 use Rattle.replies.specs.Seen.{seen}
 use Rattle.world_parts.specs.Held.{Held}
 use Rattle.world_parts.specs.Turning as kept
-use Rattle.world_parts.specs.Turning.{lets_in}
+use Rattle.world_parts.specs.Turning.{lets_in, lets_others_in}
 use Rattle.abi_machine.specs.World.{TaskState, New, Acting, AfterCall, AfterCancel, Begins, WaitsToEnter, InLoop, InBuiltin, Exited, Task, World, first_world}
 use Rattle.abi_machine.specs.Canons.{flag_at}
 use Rattle.abi_machine.specs.Counting.{phase_of}
@@ -28,9 +28,9 @@ use Rattle.abi_machine.proofs.sound.Alone.{first_runs_alone, stays_alone}
 use Rattle.abi_machine.proofs.sound.Numbered.{first_numbered, stays_numbered}
 use Rattle.standing.specs.Tasks.{TaskStands}
 use Rattle.run_laws.specs.Steps.{IsReached}
-use Rattle.run_laws.specs.TaskLists.{numbers_in, is_open, is_watched, HasLists, TurnsAreKept}
+use Rattle.run_laws.specs.TaskLists.{numbers_in, is_open, is_watched, is_awake, HasLists, TurnsAreKept}
 use Rattle.run_laws.proofs.AbleAlone.{able_again}
-use Rattle.run_laws.proofs.AbleTasks.{AreBeside, open_alike, watched_alike}
+use Rattle.run_laws.proofs.AbleTasks.{AreBeside, open_alike, watched_alike, awake_alike}
 
 -- Numbers of tasks that pass one test on the left, and another one of their numbers, are those of the tasks that pass on the right.
 abbrev kept_from : (TaskSlot → Bool) → ℕ → List TaskSlot → List (ℕ × TaskSlot)
@@ -83,14 +83,24 @@ watched_able g values s h stacks w b none =
     let same : 0 + n ≡ n = omega arith in
     ap (λ (m : ℕ). is_watched slot && kept.is_able (seen g) h m) same ∙ watched_alike g values s h stacks w n slot task b none is there alike)
 
-able_by : (g : Graph) (values : List ValType) (s : Script) (h : Held) (stacks : List (List Stack)) (w : World) (some : Bool) → AreBeside g values s h stacks w → HasLists s h
-    → list_any lets_in h.instances ≡ some → filter (kept.is_able (seen g) h) (if some then h.live else h.watched) ≡ machine.able g w
-able_by g values s h stacks w true b lists e = ap (λ (xs : List ℕ). filter (kept.is_able (seen g) h) xs) lists.opens.open_ones ∙ open_able g values s h stacks w b
-able_by g values s h stacks w false b lists e = ap (λ (xs : List ℕ). filter (kept.is_able (seen g) h) xs) lists.opens.watched_ones ∙ watched_able g values s h stacks w b e
+awake_able : (g : Graph) (values : List ValType) (s : Script) (h : Held) (stacks : List (List Stack)) (w : World) → AreBeside g values s h stacks w
+    → list_any lets_others_in h.instances ≡ false → filter (kept.is_able (seen g) h) (numbers_in is_awake h.tasks) ≡ machine.able g w
+awake_able g values s h stacks w b none =
+    both_pass g s (kept.is_able (seen g) h) is_awake (machine.is_able g w) 0 h.tasks w.tasks b.stands.are_tasks
+    (λ n slot task is there alike.
+    let same : 0 + n ≡ n = omega arith in
+    ap (λ (m : ℕ). is_awake slot && kept.is_able (seen g) h m) same ∙ awake_alike g values s h stacks w n slot task b none is there alike)
+
+able_by : (g : Graph) (values : List ValType) (s : Script) (h : Held) (stacks : List (List Stack)) (w : World) (some others : Bool) → AreBeside g values s h stacks w → HasLists s h
+    → list_any lets_in h.instances ≡ some → list_any lets_others_in h.instances ≡ others
+    → filter (kept.is_able (seen g) h) (if some then h.live else if others then h.watched.all else h.watched.awake) ≡ machine.able g w
+able_by g values s h stacks w true others b lists e f = ap (λ (xs : List ℕ). filter (kept.is_able (seen g) h) xs) lists.opens.open_ones ∙ open_able g values s h stacks w b
+able_by g values s h stacks w false true b lists e f = ap (λ (xs : List ℕ). filter (kept.is_able (seen g) h) xs) lists.opens.watched_ones ∙ watched_able g values s h stacks w b e
+able_by g values s h stacks w false false b lists e f = ap (λ (xs : List ℕ). filter (kept.is_able (seen g) h) xs) lists.opens.awake_ones ∙ awake_able g values s h stacks w b f
 
 able_is : (g : Graph) (values : List ValType) (s : Script) (h : Held) (stacks : List (List Stack)) (w : World) → AreBeside g values s h stacks w → HasLists s h
     → kept.able (seen g) h ≡ machine.able g w
-able_is g values s h stacks w b lists = able_by g values s h stacks w (list_any lets_in h.instances) b lists refl
+able_is g values s h stacks w b lists = able_by g values s h stacks w (list_any lets_in h.instances) (list_any lets_others_in h.instances) b lists refl refl
 
 -- In each world that is reached task 0 alone runs no function; and it has exited where no task runs.
 pub record IsPast (w : World) : Type 0 where

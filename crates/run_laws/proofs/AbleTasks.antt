@@ -12,7 +12,7 @@ use Rattle.entry_gate.specs.Gates as gate
 use Rattle.entry_gate.specs.Gates.{GateView, is_free}
 use Rattle.entry_gate.specs.Kinds.{needs_entry}
 use Rattle.entry_gate.specs.declared.kind.Kind.{Kind}
-use Rattle.entry_gate.specs.declared.kind.Kind.TheVariants.{Sync}
+use Rattle.entry_gate.specs.declared.kind.Kind.TheVariants.{Sync, Stackful}
 use Rattle.entry_gate.specs.Callbacks.{callback_of}
 use Rattle.entry_gate.specs.declared.callback.BadCode.{BadCode}
 use Rattle.entry_gate.specs.declared.callback.Next.{Next}
@@ -41,7 +41,7 @@ use Rattle.world_parts.specs.Entries as kept_entries
 use Rattle.world_parts.specs.News as news
 use Rattle.world_parts.specs.News.{entry_in, news_at, set_is_ready, index_is_ready, slot_is_resolved, task_is_resolved, channel_is_pending, entry_is_pending, entry_is_resolved}
 use Rattle.world_parts.specs.Turning as kept
-use Rattle.world_parts.specs.Turning.{gate_lets, gate_is_free, phase_is_able, slot_is_able, lets_in}
+use Rattle.world_parts.specs.Turning.{gate_lets, gate_is_free, phase_is_able, slot_is_able, lets_in, lets_others_in}
 use Rattle.abi_machine.specs.World.{Entry, Inst, Wait, ForYield, ForSet, ForCall, ForCopy, ForCancel, TaskState, New, Acting, AfterCall, AfterCancel, Begins, WaitsToEnter, InLoop, InBuiltin, Exited, Task, World}
 use Rattle.abi_machine.specs.Canons.{flag_at}
 use Rattle.abi_machine.specs.Counting.{passes, phase_of, blocked_at_of, has_resolved, end_of, ready}
@@ -64,7 +64,7 @@ use Rattle.standing.proofs.News.{ready_is_alike}
 use Rattle.standing.proofs.Seen.{graph_is_seen}
 use Rattle.standing.proofs.Tables.{entries_are_alike}
 use Rattle.standing.proofs.Telling.{state_alike}
-use Rattle.run_laws.specs.TaskLists.{is_open, waits_apart, is_watched, StillAskedOfTurns}
+use Rattle.run_laws.specs.TaskLists.{is_open, waits_apart, is_watched, is_awake, StillAskedOfTurns}
 use Rattle.run_laws.proofs.AskedTasks.{wait_is_counted}
 
 both_same : (a b c d : Bool) → a ≡ b → c ≡ d → (a && c) ≡ (b && d)
@@ -358,6 +358,34 @@ apart_by g values s h stacks w n slot task (Some f) b none there st e apart =
     ∙ ap (λ (m : ℕ). gate_lets (slice_get h.instances m) slot.task.kind) at
     ∙ entry_shut h slot f.instance (slice_get h.instances f.instance) refl parts.1 none waits
 
+-- A gate that lets none in that does not need exclusive entry has backpressure, and lets none in.
+pressed : (b c d : Bool) → (b && true && true) ≡ false → (b && c && d) ≡ false
+pressed true c d e = absurd (cc)
+pressed false c d e = refl
+
+shut_for_all : (i : InstanceView) (kind : Kind) → nat_lt 0 i.gate.waiting ≡ true → lets_others_in i ≡ false → gate.may_enter kind false i.gate ≡ false
+shut_for_all i kind waits none =
+    pressed (nat_eq i.gate.pressure 0) (gate.is_open kind i.gate) true (second_false (nat_lt 0 i.gate.waiting) (gate.may_enter Stackful false i.gate) waits none)
+
+all_shut : (h : Held) (kind : Kind) (at : ℕ) (o : Option InstanceView) → slice_get h.instances at ≡ o → list_any lets_others_in h.instances ≡ false
+    → ((i : InstanceView) → slice_get h.instances at ≡ Some i → nat_lt 0 i.gate.waiting ≡ true) → gate_lets o kind ≡ false
+all_shut h kind at None e none waits = refl
+all_shut h kind at (Some i) e none waits = shut_for_all i kind (waits i e) (any_not lets_others_in h.instances at i none e)
+
+asleep_by : (g : Graph) (values : List ValType) (s : Script) (h : Held) (stacks : List (List Stack)) (w : World) (n : ℕ) (slot : TaskSlot) (task : Task) (o : Option Lifted)
+    → AreBeside g values s h stacks w → list_any lets_others_in h.instances ≡ false → slice_get w.tasks n ≡ Some task → TaskStands g s slot task → func_of task.callee ≡ o
+    → waits_to_enter slot.task.phase ≡ true → phase_is_able (seen g) slot slot.task.phase h ≡ false
+asleep_by g values s h stacks w n slot task None b none there st e sleeps =
+    ap (λ (p : Phase). phase_is_able (seen g) slot p h) (st.far ∙ ap (phase_of (flag_at g)) (b.init n task there e))
+asleep_by g values s h stacks w n slot task (Some f) b none there st e sleeps =
+    let state_is : task.state ≡ WaitsToEnter = waits_state (flag_at g) task.state (ap waits_to_enter (sym st.far) ∙ sleeps) in
+    let at : slot.instance ≡ f.instance = subst (λ (o : Option Lifted). RunsIn slot.instance o) e st.place in
+    let waits : (i : InstanceView) → slice_get h.instances f.instance ≡ Some i → nat_lt 0 i.gate.waiting ≡ true =
+    wait_is_counted h w n task f there e (gates_are_kept g values s h stacks w f.instance b.stands b.marks) state_is in
+    ap (λ (p : Phase). phase_is_able (seen g) slot p h) (st.far ∙ ap (phase_of (flag_at g)) state_is)
+    ∙ ap (λ (m : ℕ). gate_lets (slice_get h.instances m) slot.task.kind) at
+    ∙ all_shut h slot.task.kind f.instance (slice_get h.instances f.instance) refl none waits
+
 kept_front : (a b p : Bool) → (b ≡ true → p ≡ false) → ((a && not b) && p) ≡ (a && p)
 kept_front true true p h = sym (h refl)
 kept_front true false p h = refl
@@ -369,4 +397,12 @@ pub watched_alike : (g : Graph) (values : List ValType) (s : Script) (h : Held) 
 watched_alike g values s h stacks w n slot task b none is there st =
     kept_front (is_open slot) (waits_apart slot) (kept.is_able (seen g) h n)
     (λ apart. ap (λ (o : Option TaskSlot). slot_is_able (seen g) o h) is ∙ apart_by g values s h stacks w n slot task (func_of task.callee) b none there st refl apart)
+    ∙ open_alike g values s h stacks w n slot task b is there st
+
+pub awake_alike : (g : Graph) (values : List ValType) (s : Script) (h : Held) (stacks : List (List Stack)) (w : World) (n : ℕ) (slot : TaskSlot) (task : Task)
+    → AreBeside g values s h stacks w → list_any lets_others_in h.instances ≡ false → slice_get h.tasks n ≡ Some slot → slice_get w.tasks n ≡ Some task → TaskStands g s slot task
+    → (is_awake slot && kept.is_able (seen g) h n) ≡ machine.is_able g w task
+awake_alike g values s h stacks w n slot task b none is there st =
+    kept_front (is_open slot) (waits_to_enter slot.task.phase) (kept.is_able (seen g) h n)
+    (λ sleeps. ap (λ (o : Option TaskSlot). slot_is_able (seen g) o h) is ∙ asleep_by g values s h stacks w n slot task (func_of task.callee) b none there st refl sleeps)
     ∙ open_alike g values s h stacks w n slot task b is there st

@@ -1,6 +1,7 @@
 -- Lists of tasks that are kept beside the tasks (Component Model, Concurrency.md, "Summary" and "Cancellation"): the tasks that have not exited, those of them
--- that do not wait for exclusive entry, and the tasks of the script's calls are as they follow from the tasks. With the marks of tables and tasks they
--- give that the same tasks can go on on both sides, that the same tasks have not exited, and that a cancellation of the script agrees.
+-- that do not wait for exclusive entry, and those that do not wait to enter, and the tasks of the script's calls are as they follow from the tasks. With the
+-- marks of tables and tasks they give that the same tasks can go on on both sides, that the same tasks have not exited, and that a cancellation of the script
+-- agrees.
 use Rattle.std.specs.Prelude.{◌≡◌, ℕ, Bool, not, ◌&&◌, List, map, filter, length, take, Option, Some, None, IsSome}
 use Rattle.std.specs.List.{slice_get, count_by}
 use Rattle.std.specs.Option.{option_and_then}
@@ -15,6 +16,7 @@ use Rattle.task_table.specs.declared.caller.Caller.{Caller}
 use Rattle.task_table.specs.declared.caller.Caller.TheVariants as by
 use Rattle.task_table.specs.declared.slot.TaskSlot.{TaskSlot}
 use Rattle.task_table.specs.Slots.{has_exited}
+use Rattle.task_table.specs.Tasks.{Watched}
 use Rattle.world_parts.specs.Channels.{numbered}
 use Rattle.world_parts.specs.Held.{Held}
 use Rattle.world_stacks.specs.Views.{PileView}
@@ -34,7 +36,7 @@ use Rattle.run_laws.specs.Turns.{IsProgram, CancelRow, TurnKept}
 abbrev pub numbers_in : (TaskSlot → Bool) → List TaskSlot → List ℕ
 numbers_in test tasks = map (λ (x : ℕ × TaskSlot). x.0) (filter (λ (x : ℕ × TaskSlot). test x.1) (with_numbers 0 tasks))
 
--- A task has not exited; and it does not wait for exclusive entry.
+-- A task has not exited; and it does not wait for exclusive entry, or not to enter.
 abbrev pub is_open : TaskSlot → Bool
 is_open slot = not (has_exited slot.task.phase)
 
@@ -44,9 +46,13 @@ waits_apart slot = waits_to_enter slot.task.phase && needs_entry slot.task.kind
 abbrev pub is_watched : TaskSlot → Bool
 is_watched slot = is_open slot && not (waits_apart slot)
 
-pub record OpensMarked (live watched : List ℕ) (tasks : List TaskSlot) : Type 0 where
+abbrev pub is_awake : TaskSlot → Bool
+is_awake slot = is_open slot && not (waits_to_enter slot.task.phase)
+
+pub record OpensMarked (live : List ℕ) (watched : Watched) (tasks : List TaskSlot) : Type 0 where
   pub open_ones : live ≡ numbers_in is_open tasks
-  pub watched_ones : watched ≡ numbers_in is_watched tasks
+  pub watched_ones : watched.all ≡ numbers_in is_watched tasks
+  pub awake_ones : watched.awake ≡ numbers_in is_awake tasks
 
 -- The script's call of which this caller is, and that whose task is the one of a number. Calls are counted from 1.
 abbrev pub call_of : Caller → Option ℕ
@@ -63,7 +69,7 @@ pub record CallsMarked (calls : List ℕ) (tasks : List TaskSlot) : Type 0 where
   pub kept : (call t : ℕ) → called_at tasks t ≡ Some call → numbered calls call ≡ Some t
 
 -- All these lists; as many calls are kept as were taken.
-pub record ListsMarked (s : Script) (live watched numbers : List ℕ) (count : ℕ) (tasks : List TaskSlot) : Type 0 where
+pub record ListsMarked (s : Script) (live : List ℕ) (watched : Watched) (numbers : List ℕ) (count : ℕ) (tasks : List TaskSlot) : Type 0 where
   pub opens : OpensMarked live watched tasks
   pub calls : CallsMarked numbers tasks
   pub taken : length numbers ≡ count_by is_call (take count s.items)

@@ -21,9 +21,9 @@ use Rattle.trace_labels.specs.declared.label.Label.TheVariants as line
 use Rattle.instances.specs.Instances.{with_gate}
 use Rattle.task_table.specs.declared.slot.TaskSlot.{TaskSlot}
 use Rattle.task_table.specs.Slots as slots
-use Rattle.task_table.specs.Tasks.{without}
+use Rattle.task_table.specs.Tasks.{parked_by}
 use Rattle.world_parts.specs.declared.parts.Flow.TheVariants as flow
-use Rattle.world_parts.specs.Held.{Held, Done, Gives, after}
+use Rattle.world_parts.specs.Held.{Held, Gives, after}
 use Rattle.world_parts.specs.Feed.{told, left_chain}
 use Rattle.world_parts.specs.Entries.{with_instance}
 use Rattle.world_parts.specs.Slots.{with_task, parked}
@@ -80,19 +80,12 @@ on_wait g values s before h stacks w t x why flag reason state is may far at pla
     (via _ _ _ (λ done k. after (told (line.Block t reason) k) (λ done l. left_chain l)) (happens_when (event.Block why flag) x t h is may refl))
     (on_leave g values s t before stacks (with_task t waits h) (in_state t state w) (line.Block t reason) t first same now)
 
--- A task that waits for exclusive entry is not looked at, until a gate lets one in.
+-- A task that waits to enter is not looked at, until a gate lets one in.
 abbrev watched_by : Bool → ℕ → Held → Held
-watched_by b t h = record h { watched = if b then without t h.watched else h.watched }
-
-abbrev parked_if : Bool → ℕ → Held → Done (Unit {0})
-parked_if b t h = if b then Gives tt (record h { watched = without t h.watched }) else Gives tt h
-
-parked_by : (b : Bool) (t : ℕ) (h : Held) → parked_if b t h ≡ Gives tt (watched_by b t h)
-parked_by true t h = refl
-parked_by false t h = refl
+watched_by b t h = record h { watched = parked_by b t h.watched }
 
 parked_is : (t : ℕ) (kind : Kind) (h : Held) → parked t kind h ≡ Gives tt (watched_by (needs_entry kind) t h)
-parked_is t kind h = parked_by (needs_entry kind) t h
+parked_is t kind h = refl
 
 entered_is : (g : Graph) (w : World) (t : ℕ) (task : Task) (f : Lifted) → Acts w t task f → entered g t task f w ≡ behind [] (enters g t w)
 entered_is g w t task f acts =

@@ -25,7 +25,7 @@ use Rattle.task_table.specs.declared.errand.Errand.TheVariants as errand
 use Rattle.task_table.specs.declared.slot.TaskSlot.{TaskSlot}
 use Rattle.task_table.specs.Slots as slots
 use Rattle.task_table.specs.Slots.{at_errand}
-use Rattle.task_table.specs.Tasks.{without}
+use Rattle.task_table.specs.Tasks.{without, unwatched}
 use Rattle.world_parts.specs.declared.parts.Flow.TheVariants as flow
 use Rattle.world_parts.specs.declared.parts.Rest.TheVariants as rest
 use Rattle.world_parts.specs.Held as kept
@@ -95,7 +95,7 @@ module _ (g : Graph) (values : List ValType) (s : Script) (h : Held) (piles : Li
   exited x = with_task 0 (slots.with_task (record x.task { phase = phase.Exited }) x) h
 
   abbrev closed_behind : TaskSlot → Held
-  closed_behind x = record (exited x) { live = without 0 h.live; watched = without 0 h.watched }
+  closed_behind x = record (exited x) { live = without 0 h.live; watched = unwatched 0 h.watched }
 
   exits_so : (x : TaskSlot) → slice_get h.tasks 0 ≡ Some x → TaskStands g s x task
       → init_exits h ≡ Gives tt (at_rest rest.Free (at_rest (rest_behind (take (length h.chain - 1) h.chain)) (unchained (closed_behind x))))

@@ -16,7 +16,7 @@ use Rattle.trace_labels.specs.declared.label.Label.TheVariants as line
 use Rattle.task_table.specs.declared.errand.Errand.TheVariants as errand
 use Rattle.task_table.specs.declared.slot.TaskSlot.{TaskSlot}
 use Rattle.task_table.specs.Slots as slots
-use Rattle.task_table.specs.Tasks.{without}
+use Rattle.task_table.specs.Tasks.{without, unwatched}
 use Rattle.instances.specs.Instances.{InstanceView, with_gate}
 use Rattle.world_parts.specs.declared.parts.Flow.TheVariants as flow
 use Rattle.world_parts.specs.Held as kept
@@ -130,4 +130,4 @@ task_exits g values s h stacks w t task f first there acts resolved runs inst st
     (after (given o (λ v. Gives tt (with_instance x.instance (with_gate (given_up t v.gate) v) exited))) (λ (done : Unit {0}) n2. after (closed t n2) (λ done o2. after (told (line.Exit t) o2) (λ done p. left_chain p))))
     (Steps (line.Exit t ∷ []) (world.left_chain (in_state t Exited w))))
     (sym i_is)
-    (on_leave g values s t h.labels stacks (record out { live = without t out.live; watched = without t out.watched }) (in_state t Exited w) (line.Exit t) t first (refl {a = h.labels}) twice)))))
+    (on_leave g values s t h.labels stacks (record out { live = without t out.live; watched = unwatched t out.watched }) (in_state t Exited w) (line.Exit t) t first (refl {a = h.labels}) twice)))))

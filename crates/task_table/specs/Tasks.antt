@@ -1,6 +1,6 @@
 -- All tasks of a run (Component Model, CanonicalABI.md, "Task State"; Concurrency.md, "Summary"): those that have not exited, and who called
 -- whom.
-use Rattle.std.specs.Prelude.{ℕ, zero, suc, nat_eq, Bool, true, false, ◌||◌, List, Option, Some, None}
+use Rattle.std.specs.Prelude.{ℕ, zero, suc, nat_eq, Bool, true, false, ◌||◌, if◌then◌else◌, List, Option, Some, None}
 use Rattle.std.specs.List.{slice_get}
 use Rattle.std.specs.Ordering.{nat_cmp}
 use Rattle.std.specs.BTreeMap.{is_at}
@@ -16,6 +16,26 @@ with_number task tasks = insert_key nat_cmp tasks task
 
 abbrev pub without : ℕ → List ℕ → List ℕ
 without task tasks = remove_key (is_at (nat_cmp task)) tasks
+
+-- The tasks of which it is looked which of them can go on: those that do not wait for exclusive entry, and of these those that do not wait to enter
+-- at all.
+pub record Watched : Type 0 where
+  pub all : List ℕ
+  pub awake : List ℕ
+
+-- with a task among both, with it in neither, and with it among those alone that do not wait for exclusive entry
+abbrev pub watching : ℕ → Watched → Watched
+watching task w = record { all = with_number task w.all; awake = with_number task w.awake }
+
+abbrev pub unwatched : ℕ → Watched → Watched
+unwatched task w = record { all = without task w.all; awake = without task w.awake }
+
+abbrev pub asleep : ℕ → Watched → Watched
+asleep task w = record { all = w.all; awake = without task w.awake }
+
+-- a task waits to enter, for exclusive entry or not
+abbrev pub parked_by : Bool → ℕ → Watched → Watched
+parked_by exclusive task w = if exclusive then unwatched task w else asleep task w
 
 -- the task that called
 abbrev pub by_of : Caller → Option ℕ

@@ -20,6 +20,8 @@ pub struct Tasks {
     pub live: BTreeSet<u32>,
     /// Those of them that do not wait for exclusive entry: where no gate lets one that does in, no other can go on.
     pub watched: BTreeSet<u32>,
+    /// Those of them that do not wait to enter at all: where there is backpressure, no other can go on.
+    pub awake: BTreeSet<u32>,
     /// The tasks that the script's calls made, in the order of the calls.
     pub calls: Vec<u32>,
 }
@@ -30,12 +32,14 @@ impl Tasks {
         ensures slots { result.slots.items ≡ [] }
         ensures live { result.live.keys ≡ [] }
         ensures watched { result.watched.keys ≡ [] }
+        ensures awake { result.awake.keys ≡ [] }
         ensures calls { result.calls.items ≡ [] }
     {
         Tasks {
             slots: Vec::new(alloc),
             live: BTreeSet::new(alloc),
             watched: BTreeSet::new(alloc),
+            awake: BTreeSet::new(alloc),
             calls: Vec::new(alloc),
         }
     }
@@ -63,11 +67,13 @@ impl Tasks {
         ensures slots { OnOk result (self.new.slots.items ≡ self.old.slots.items ++ slot ∷ []) }
         ensures live { OnOk result (self.new.live.keys ≡ with_number (length self.old.slots.items) self.old.live.keys) }
         ensures watched { OnOk result (self.new.watched.keys ≡ with_number (length self.old.slots.items) self.old.watched.keys) }
+        ensures awake { OnOk result (self.new.awake.keys ≡ with_number (length self.old.slots.items) self.old.awake.keys) }
         ensures calls { self.new.calls.items ≡ self.old.calls.items }
     {
         let number = self.next()?;
         put(&mut self.live, number)?;
         put(&mut self.watched, number)?;
+        put(&mut self.awake, number)?;
         match self.slots.push(slot) {
             Ok(()) => Ok(number),
             Err(_) => Err(Memory),
@@ -79,10 +85,12 @@ impl Tasks {
         ensures slots { self.new.slots.items ≡ self.old.slots.items }
         ensures live { self.new.live.keys ≡ without task self.old.live.keys }
         ensures watched { self.new.watched.keys ≡ without task self.old.watched.keys }
+        ensures awake { self.new.awake.keys ≡ without task self.old.awake.keys }
         ensures calls { self.new.calls.items ≡ self.old.calls.items }
     {
         self.live.remove(&task);
         self.watched.remove(&task);
+        self.awake.remove(&task);
     }
 
     /// Says that a task waits for exclusive entry.
@@ -90,19 +98,34 @@ impl Tasks {
         ensures slots { self.new.slots.items ≡ self.old.slots.items }
         ensures live { self.new.live.keys ≡ self.old.live.keys }
         ensures watched { self.new.watched.keys ≡ without task self.old.watched.keys }
+        ensures awake { self.new.awake.keys ≡ without task self.old.awake.keys }
         ensures calls { self.new.calls.items ≡ self.old.calls.items }
     {
         self.watched.remove(&task);
+        self.awake.remove(&task);
     }
 
-    /// Says that a task does not wait for exclusive entry any more. After `Memory` all is as it was.
+    /// Says that a task waits to enter, and not for exclusive entry.
+    pub fn queue(&mut self, task: u32)
+        ensures slots { self.new.slots.items ≡ self.old.slots.items }
+        ensures live { self.new.live.keys ≡ self.old.live.keys }
+        ensures watched { self.new.watched.keys ≡ self.old.watched.keys }
+        ensures awake { self.new.awake.keys ≡ without task self.old.awake.keys }
+        ensures calls { self.new.calls.items ≡ self.old.calls.items }
+    {
+        self.awake.remove(&task);
+    }
+
+    /// Says that a task does not wait to enter any more. After `Memory` it may be among those alone that do not wait to enter.
     pub fn unpark(&mut self, task: u32) -> Result<(), Memory>
         ensures slots { self.new.slots.items ≡ self.old.slots.items }
         ensures live { self.new.live.keys ≡ self.old.live.keys }
         ensures watched { OnOk result (self.new.watched.keys ≡ with_number task self.old.watched.keys) }
         ensures err { OnErr result (self.new.watched.keys ≡ self.old.watched.keys) }
+        ensures awake { OnOk result (self.new.awake.keys ≡ with_number task self.old.awake.keys) }
         ensures calls { self.new.calls.items ≡ self.old.calls.items }
     {
+        put(&mut self.awake, task)?;
         put(&mut self.watched, task)?;
         Ok(())
     }

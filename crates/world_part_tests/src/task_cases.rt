@@ -1,9 +1,9 @@
 //! The tasks of a run.
 //!
 //! `new:1` makes a task in instance 1 that nobody called, `host:1` one that the script called, `by:2,0` one in instance 2 that task 0
-//! called; `x:1` lets task 1 exit, and `live` tells those that have not; `park:1` and `unpark:1` say that task 1 waits for exclusive entry,
-//! or does so no more, and `watched` tells those that have not exited and don't; `in:2,1` asks whether instance 1 is that of task 2 or of
-//! one of its callers.
+//! called; `x:1` lets task 1 exit, and `live` tells those that have not; `park:1` says that task 1 waits for exclusive entry, `queue:1` that it
+//! waits to enter otherwise, and `unpark:1` that it does so no more; of those that have not exited `watched` tells which don't wait for
+//! exclusive entry, and `awake` which don't wait to enter; `in:2,1` asks whether instance 1 is that of task 2 or of one of its callers.
 
 use crate::words::{number, pair, write_list, write_number, yes_or_no};
 use cases::{Acts, Answers, acted};
@@ -68,6 +68,14 @@ impl Acts for Run {
             "watched" => {
                 let watched: Vec<u32> = self.tasks.watched.iter().copied().collect(alloc)?;
                 write_list(text, &watched)?;
+            }
+            "awake" => {
+                let awake: Vec<u32> = self.tasks.awake.iter().copied().collect(alloc)?;
+                write_list(text, &awake)?;
+            }
+            "queue" => {
+                self.tasks.queue(number(rest));
+                text.push_str("ok")?;
             }
             "park" => {
                 self.tasks.park(number(rest));

@@ -3,6 +3,7 @@ use Rattle.std.specs.Prelude.{◌≡◌, ℕ, Bool, if◌then◌else◌, List, O
 use Rattle.wasm_store.specs.Store.{Store}
 use Rattle.instances.specs.Instances.{InstanceView}
 use Rattle.task_table.specs.declared.slot.TaskSlot.{TaskSlot}
+use Rattle.task_table.specs.Tasks.{Watched}
 use Rattle.channels.specs.declared.channel.Channel.{Channel}
 use Rattle.trace_labels.specs.declared.label.Label.{Label}
 use Rattle.trace_labels.specs.declared.trap.TrapName.{TrapName}
@@ -12,14 +13,14 @@ use Rattle.world_parts.specs.declared.parts.Stop.{Stop}
 use Rattle.world_parts.specs.declared.parts.Stop.TheVariants as stop
 
 -- The fields of what is kept, in the order of what is kept: of the tasks by their numbers those that have not exited, and of these those that
--- do not wait for exclusive entry, both rising; and the tasks that the script's calls made. The acting task stands last in the chain.
+-- are watched, rising; and the tasks that the script's calls made. The acting task stands last in the chain.
 pub record Held : Type 0 where
   pub store : Store
   pub memories : List (Option ℕ)
   pub instances : List InstanceView
   pub tasks : List TaskSlot
   pub live : List ℕ
-  pub watched : List ℕ
+  pub watched : Watched
   pub calls : List ℕ
   pub streams : List Channel
   pub futures : List Channel
@@ -38,7 +39,7 @@ held p = record {
   instances = p.instances.items;
   tasks = p.tasks.slots.items;
   live = p.tasks.live.keys;
-  watched = p.tasks.watched.keys;
+  watched = record { all = p.tasks.watched.keys; awake = p.tasks.awake.keys };
   calls = p.tasks.calls.items;
   streams = p.streams.items;
   futures = p.futures.items;

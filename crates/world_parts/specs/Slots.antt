@@ -19,7 +19,7 @@ use Rattle.task_table.specs.declared.refusal.EventError.TheVariants as event_err
 use Rattle.task_table.specs.declared.slot.TaskSlot.{TaskSlot}
 use Rattle.task_table.specs.Callers.{called_of, payload_of, may_raise, may_keep}
 use Rattle.task_table.specs.Slots.{event_answer, advanced_slot, cancel_answer, cancelled_slot, is_to_be_told, word_at, with_word, at_errand, at_call, raised_slot, awaited_slot, told_slot, kept_slot}
-use Rattle.task_table.specs.Tasks.{with_number, without, is_among_callers}
+use Rattle.task_table.specs.Tasks.{with_number, without, watching, unwatched, parked_by, is_among_callers}
 use Rattle.world_parts.specs.Names.{task_name}
 use Rattle.world_parts.specs.Held.{Held, Done, Gives, Traps, Stuck, after, given}
 use Rattle.world_parts.specs.Gates.{entry_is_free}
@@ -144,24 +144,23 @@ told_by (Some payload) t slot h = Gives payload (with_task t slot h)
 abbrev pub state_told : ℕ → Held → Done ℕ
 state_told t h = given (slice_get h.tasks t) (λ slot. told_by (payload_of slot.caller) t (told_slot slot) h)
 
--- The number of the next task. A task is made, one has exited, one waits for exclusive entry or does so no more, and one is that of the script's
--- next call.
+-- The number of the next task. A task is made, one has exited, one waits to enter or does so no more, and one is that of the script's next call.
 abbrev pub next_task : Held → Done ℕ
 next_task h = Gives (length h.tasks) h
 
 abbrev pub task_made : TaskSlot → Held → Done ℕ
 task_made slot h =
     Gives (length h.tasks)
-    (record h { tasks = h.tasks ++ slot ∷ []; live = with_number (length h.tasks) h.live; watched = with_number (length h.tasks) h.watched })
+    (record h { tasks = h.tasks ++ slot ∷ []; live = with_number (length h.tasks) h.live; watched = watching (length h.tasks) h.watched })
 
 abbrev pub closed : ℕ → Held → Done (Unit {0})
-closed t h = Gives tt (record h { live = without t h.live; watched = without t h.watched })
+closed t h = Gives tt (record h { live = without t h.live; watched = unwatched t h.watched })
 
 abbrev pub parked : ℕ → Kind → Held → Done (Unit {0})
-parked t kind h = if needs_entry kind then Gives tt (record h { watched = without t h.watched }) else Gives tt h
+parked t kind h = Gives tt (record h { watched = parked_by (needs_entry kind) t h.watched })
 
 abbrev pub unparked : ℕ → Held → Done (Unit {0})
-unparked t h = Gives tt (record h { watched = with_number t h.watched })
+unparked t h = Gives tt (record h { watched = watching t h.watched })
 
 abbrev pub call_made : ℕ → Held → Done (Unit {0})
 call_made t h = Gives tt (record h { calls = h.calls ++ t ∷ [] })

@@ -2,7 +2,7 @@
 use Rattle.std.specs.Prelude.{ℕ, ◌+◌, ◌-◌, nat_eq, nat_lt, Bool, true, false, ◌&&◌, ◌||◌, if◌then◌else◌, List, [], ◌∷◌, ◌++◌, length, filter, Option, Some, None, Result, Ok, Err}
 use Rattle.std.specs.List.{slice_get, list_any}
 use Rattle.entry_gate.specs.declared.kind.Kind.{Kind}
-use Rattle.entry_gate.specs.declared.kind.Kind.TheVariants.{Sync}
+use Rattle.entry_gate.specs.declared.kind.Kind.TheVariants.{Sync, Stackful}
 use Rattle.entry_gate.specs.Gates as gate
 use Rattle.entry_gate.specs.Gates.{is_free}
 use Rattle.entry_gate.specs.Callbacks.{callback_of}
@@ -75,13 +75,18 @@ slot_is_able g (Some slot) h = phase_is_able g slot slot.task.phase h
 abbrev pub is_able : Views → Held → ℕ → Bool
 is_able g h t = slot_is_able g (slice_get h.tasks t) h
 
--- The able tasks, by their numbers. Those that have exited are not looked at, and those that wait for exclusive entry only where a gate lets
--- one of them in.
+-- The able tasks, by their numbers. Those that have exited are not looked at; those that wait for exclusive entry only where a gate lets one of
+-- them in, and the others that wait to enter only where a gate at which one waits is without backpressure.
 abbrev pub lets_in : InstanceView → Bool
 lets_in i = nat_lt 0 i.gate.waiting && gate.may_enter Sync false i.gate
 
+abbrev pub lets_others_in : InstanceView → Bool
+lets_others_in i = nat_lt 0 i.gate.waiting && gate.may_enter Stackful false i.gate
+
 abbrev pub candidates : Held → List ℕ
-candidates h = if list_any lets_in h.instances then h.live else h.watched
+candidates h =
+    if list_any lets_in h.instances then h.live else
+    if list_any lets_others_in h.instances then h.watched.all else h.watched.awake
 
 abbrev pub able : Views → Held → List ℕ
 able g h = filter (is_able g h) (candidates h)

@@ -146,6 +146,7 @@ impl Parts {
             self.tasks.park(task);
             Ok(())
         } else {
+            self.tasks.queue(task);
             Ok(())
         }
     }

@@ -28,7 +28,7 @@ use Rattle.task_table.specs.Callers as callers
 use Rattle.task_table.specs.Callers.{changed, may_raise}
 use Rattle.task_table.specs.Slots as slots
 use Rattle.task_table.specs.Slots.{event_answer, advanced_slot, waits_on, waits_directly_at, raised_slot}
-use Rattle.task_table.specs.Tasks.{with_number, without}
+use Rattle.task_table.specs.Tasks.{without, Watched, watching, unwatched, parked_by}
 use Rattle.trace_labels.specs.declared.label.BlockReason.TheVariants as reason
 use Rattle.trace_labels.specs.declared.label.Label.TheVariants as line
 use Rattle.world_parts.specs.declared.parts.Flow.TheVariants as flow
@@ -99,14 +99,9 @@ waits_outside h k t x i is here runs new tasks_are insts_are =
     tasks_are insts_are (waits_alike x y refl refl refl refl (λ index. sym (ap (waits_directly_at index) p)))
     (states_stay t x later (arriving_state x.task.cancellation x.task.resolution x.task.phase p))
 
-parked_every : {A : Type 0} (h k : Held) (t : ℕ) (kind : Kind) (c : Unit {0} → Held → Done A) → ((watched : List ℕ) → KeepsMarks h (c tt (record k { watched = watched })))
+parked_every : {A : Type 0} (h k : Held) (t : ℕ) (kind : Kind) (c : Unit {0} → Held → Done A) → ((watched : Watched) → KeepsMarks h (c tt (record k { watched = watched })))
     → KeepsMarks h (after (parked t kind k) c)
-parked_every h k t kind c p = by_bool h k (without t k.watched) (needs_entry kind) c p
-  where
-    by_bool : {A : Type 0} (h k : Held) (now : List ℕ) (b : Bool) (c : Unit {0} → Held → Done A) → ((watched : List ℕ) → KeepsMarks h (c tt (record k { watched = watched })))
-        → KeepsMarks h (after (if b then Gives tt (record k { watched = now }) else Gives tt k) c)
-    by_bool h k now true c p = p now
-    by_bool h k now false c p = p k.watched
+parked_every h k t kind c p = p (parked_by (needs_entry kind) t k.watched)
 
 arrived_late : (h : Held) (t : ℕ) (x : TaskSlot) (i : InstanceView) → slice_get h.tasks t ≡ Some x → slice_get h.instances x.instance ≡ Some i → runs_func x.callee ≡ true
     → KeepsMarks h (after (gate_waited x.instance h) (λ done o. after (parked t x.task.kind o) (λ done p. blocked t blocked_at.Entry false reason.Entry p)))
@@ -276,7 +271,7 @@ by_wait h t x i true is here runs e free =
     (λ done n. after (gate_entered x.instance t x.task.kind n) (λ done o. after (happens t event.Enter o) (λ done p. after (raised t state.Started p) (λ done q. told (line.Enter t) q))))
     (let i1 : InstanceView = with_gate (without_wait i.gate) i in
     let k : Held = with_instance x.instance i1 h in
-    let n : Held = record k { watched = with_number t k.watched } in
+    let n : Held = record k { watched = watching t k.watched } in
     behind_wait h n t x i i1 true is here runs e free refl (get_set h.instances x.instance i i1 here) (λ j. set_twice h.instances x.instance i1 j) refl))
   where
     further_at : {A B C D : Type 0} (h : Held) (o : Option A) (x : A) (f : A → Done B) (c : B → Held → Done C) (d : C → Held → Done D) → o ≡ Some x → KeepsMarks h (after (after (f x) c) d)
@@ -383,6 +378,6 @@ leaves_marks h runs one =
     (λ done n. after (closed t n) (λ done o. after (told (line.Exit t) o) (λ done p. left_chain p)))
     (λ i here.
     let n : Held = with_instance x.instance (with_gate (given_up t i.gate) i) m in
-    let o : Held = record n { live = without t n.live; watched = without t n.watched } in
+    let o : Held = record n { live = without t n.live; watched = unwatched t n.watched } in
     every_through h o (after (told (line.Exit t) o) (λ done p. left_chain p))
     (gone_marks h o t x i is here (runs t acting x is) (first_so (is_acting x.task.phase) (is_some x.task.resolution || is_nobody x.task.caller) may) one refl refl) (told_and_left (line.Exit t) o))))))

@@ -16,7 +16,7 @@ use Rattle.task_table.specs.declared.errand.Errand.{Errand}
 use Rattle.task_table.specs.declared.errand.Errand.TheVariants as errand
 use Rattle.task_table.specs.Slots as slots
 use Rattle.task_table.specs.Slots.{event_answer, advanced_slot}
-use Rattle.task_table.specs.Tasks.{without}
+use Rattle.task_table.specs.Tasks.{without, unwatched}
 use Rattle.world_parts.specs.declared.parts.Rest.TheVariants as rest
 use Rattle.world_parts.specs.Held.{Held, Gives, Stuck, after, given}
 use Rattle.world_parts.specs.Feed.{at_rest, left_chain}
@@ -53,7 +53,7 @@ init_exits_marks h none =
     acted_every h h 0 event.Exit x (λ done k. after (closed 0 k) (λ done l. after (left_chain l) (λ flow m. Gives (tt {0}) (at_rest rest.Free m))))
     (λ may fine.
     let k : Held = with_task 0 (slots.with_task (tasks.after event.Exit x.task) x) h in
-    let l : Held = record k { live = without 0 k.live; watched = without 0 k.watched } in
+    let l : Held = record k { live = without 0 k.live; watched = unwatched 0 k.watched } in
     every_through h k (after (closed 0 k) (λ done l. after (left_chain l) (λ flow m. Gives (tt {0}) (at_rest rest.Free m))))
     (init_gone h 0 x is (none 0 x is) (first_so (is_acting x.task.phase) (is_some x.task.resolution || is_nobody x.task.caller) may))
     (every_from k l (after (left_chain l) (λ flow m. Gives (tt {0}) (at_rest rest.Free m))) refl refl

@@ -25,7 +25,7 @@ use Rattle.task_table.specs.Callers as callers
 use Rattle.task_table.specs.Callers.{changed, may_raise}
 use Rattle.task_table.specs.Slots as slots
 use Rattle.task_table.specs.Slots.{trapped, event_answer, advanced_slot, raised_slot}
-use Rattle.task_table.specs.Tasks.{with_number}
+use Rattle.task_table.specs.Tasks.{watching}
 use Rattle.trace_labels.specs.declared.label.Label.{Label}
 use Rattle.trace_labels.specs.declared.label.Label.TheVariants as line
 use Rattle.trace_labels.specs.declared.typed.TypedValue.{TypedValue}
@@ -86,7 +86,7 @@ unwaited_quiet at h =
 
 wait_quiet : (b : Bool) (t at : ℕ) (h : Held) → QuietBy h (unwaited_if b t at h)
 wait_quiet true t at h =
-    quiet_after h (gate_unwaited at h) (λ done k. unparked t k) (unwaited_quiet at h) (λ done k. quiet_all k (record k { watched = with_number t k.watched }) refl refl refl refl)
+    quiet_after h (gate_unwaited at h) (λ done k. unparked t k) (unwaited_quiet at h) (λ done k. quiet_all k (record k { watched = watching t k.watched }) refl refl refl refl)
 wait_quiet false t at h = quiet_same h
 
 entered_quiet : (at t : ℕ) (kind : Kind) (h : Held) → QuietBy h (gate_entered at t kind h)

@@ -8,7 +8,7 @@ use Rattle.task_table.specs.declared.caller.Caller.TheVariants.{Host}
 use Rattle.task_table.specs.declared.errand.Callee.TheVariants as callee
 use Rattle.task_table.specs.declared.slot.TaskSlot.{TaskSlot}
 use Rattle.task_table.specs.Slots.{new_slot}
-use Rattle.task_table.specs.Tasks.{with_number}
+use Rattle.task_table.specs.Tasks.{with_number, watching}
 use Rattle.trace_labels.specs.declared.label.Label.TheVariants as line
 use Rattle.trace_labels.specs.declared.trap.TrapName.TheVariants as trap
 use Rattle.trace_labels.specs.declared.typed.TypedValue.{TypedValue}
@@ -81,7 +81,7 @@ call_taken_marks export instance kind name args h numbers =
     spent_every h
     (λ done k. after (Gives (tt {0}) (record k { taken = k.taken + 1 })) (λ done l. after (Gives (length l.tasks) l) (λ t m.
     after (told (line.Take (length m.calls + 1) t name args) m) (λ done n.
-    after (Gives (length n.tasks) (record n { tasks = n.tasks ++ new_slot instance kind (callee.Export export) (Host (length m.calls + 1)) ∷ []; live = with_number (length n.tasks) n.live; watched = with_number (length n.tasks) n.watched })) (λ made o.
+    after (Gives (length n.tasks) (record n { tasks = n.tasks ++ new_slot instance kind (callee.Export export) (Host (length m.calls + 1)) ∷ []; live = with_number (length n.tasks) n.live; watched = watching (length n.tasks) n.watched })) (λ made o.
     after (Gives (tt {0}) (record o { calls = o.calls ++ t ∷ [] })) (λ done p. after (chained t p) (λ done q. Gives flow.Rests (at_rest rest.Arrives q))))))))
     (let slot : TaskSlot = new_slot instance kind (callee.Export export) (Host (length h.calls + 1)) in
     let k : Held = record h {
@@ -90,7 +90,7 @@ call_taken_marks export instance kind name args h numbers =
       labels = h.labels ++ line.Take (length h.calls + 1) (length h.tasks) name args ∷ [];
       tasks = h.tasks ++ slot ∷ [];
       live = with_number (length h.tasks) h.live;
-      watched = with_number (length h.tasks) h.watched;
+      watched = watching (length h.tasks) h.watched;
       calls = h.calls ++ length h.tasks ∷ [];
       chain = h.chain ++ length h.tasks ∷ [];
       rest = rest.Arrives;

@@ -55,7 +55,7 @@ call_begun_lists t canon callee instance kind words h =
     (errand_set_lists t (errand.AfterCall made canon) h)
     (λ done l.
     lists_after l (task_made slot l) (λ number m. after (told (line.Call t made (instance + 1)) m) (λ done n. after (chained made n) (λ done o. Gives flow.Rests (at_rest rest.Arrives o))))
-    (made_lists slot l refl refl refl)
+    (made_lists slot l refl refl refl refl)
     (λ number m.
     lists_after m (told (line.Call t made (instance + 1)) m) (λ done n. after (chained made n) (λ done o. Gives flow.Rests (at_rest rest.Arrives o))) (told_lists (line.Call t made (instance + 1)) m)
     (λ done n. lists_all n (at_rest rest.Arrives (record n { chain = n.chain ++ made ∷ [] })) refl refl refl refl refl))))

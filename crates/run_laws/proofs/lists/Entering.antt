@@ -15,7 +15,7 @@ use Rattle.tasks.specs.Tasks as tasks
 use Rattle.tasks.specs.Tasks.{is_new}
 use Rattle.task_table.specs.declared.slot.TaskSlot.{TaskSlot}
 use Rattle.task_table.specs.Slots as slots
-use Rattle.task_table.specs.Tasks.{with_number, without}
+use Rattle.task_table.specs.Tasks.{without, watching, unwatched, asleep, parked_by}
 use Rattle.trace_labels.specs.declared.label.BlockReason.TheVariants as reason
 use Rattle.trace_labels.specs.declared.label.Label.TheVariants as line
 use Rattle.world_parts.specs.declared.parts.Flow.TheVariants as flow
@@ -27,10 +27,10 @@ use Rattle.world_parts.specs.Gates.{may_enter, gate_waited, gate_entered, gate_g
 use Rattle.world_parts.specs.Going.{arrives, enters, leaves, waits_to_enter, unwaited_if}
 use Rattle.world_parts.specs.Slots.{instance_of, kind_of, phase_of, happens, raised, closed, parked, unparked, with_task}
 use Rattle.abi_machine.proofs.sound.Found.{some_same}
-use Rattle.run_laws.specs.TaskLists.{is_open, is_watched}
+use Rattle.run_laws.specs.TaskLists.{is_open, waits_apart, is_watched}
 use Rattle.run_laws.proofs.lists.Feed.{left_chain_lists, told_lists}
 use Rattle.run_laws.proofs.lists.Slots.{happened_then, raised_lists}
-use Rattle.run_laws.proofs.lists.Same.{ListsBy, SlotSame, lists_after, lists_behind, lists_look, further_lists, further_tested, lists_same, lists_task, lists_close, lists_park, lists_unpark}
+use Rattle.run_laws.proofs.lists.Same.{ListsBy, SlotSame, lists_after, lists_behind, lists_look, further_lists, further_tested, lists_same, lists_task, lists_close, lists_park, lists_queue, lists_unpark}
 
 -- How far a task is that is new, or waits.
 new_open : (p : Phase) → is_new p ≡ true → slots.has_exited p ≡ false
@@ -76,43 +76,46 @@ leaves_lists h =
     (λ done n. after (closed t n) (λ done o. after (told (line.Exit t) o) (λ done p. left_chain p)))
     (λ i there.
     let n : Held = with_instance z.instance (with_gate (given_up t i.gate) i) m in
-    let p : Held = record n { live = without t n.live; watched = without t n.watched; labels = n.labels ++ line.Exit t ∷ [] } in
+    let p : Held = record n { live = without t n.live; watched = unwatched t n.watched; labels = n.labels ++ line.Exit t ∷ [] } in
     lists_behind h p (left_chain p) (lists_close h p t x y is refl refl refl refl refl refl refl) (left_chain_lists p)))))
 
 -- One arrives, and may have to wait.
-block_same : (x : TaskSlot) → is_new x.task.phase ≡ true → needs_entry x.task.kind ≡ false → SlotSame x (slots.with_task (tasks.after (event.Block blocked_at.Entry false) x.task) x)
-block_same x new free = record {
-  exited = sym (new_open x.task.phase new);
-  apart = ap (λ (b : Bool). true && b) free ∙ ap (λ (b : Bool). b && needs_entry x.task.kind) (sym (new_unblocked x.task.phase new));
-  call = refl;
-}
-
 block_open : (x : TaskSlot) → is_new x.task.phase ≡ true → is_open (slots.with_task (tasks.after (event.Block blocked_at.Entry false) x.task) x) ≡ is_open x
 block_open x new = ap not (sym (new_open x.task.phase new))
 
 apart_unwatched : (x : TaskSlot) → needs_entry x.task.kind ≡ true → is_watched (slots.with_task (tasks.after (event.Block blocked_at.Entry false) x.task) x) ≡ false
 apart_unwatched x needs = ap (λ (b : Bool). true && not (true && b)) needs
 
--- It waits, and is watched no more where it waits for exclusive entry.
+new_watched : (x : TaskSlot) → is_new x.task.phase ≡ true → is_watched x ≡ true
+new_watched x new =
+    ap (λ (b : Bool). not b && not (waits_apart x)) (new_open x.task.phase new)
+    ∙ ap (λ (b : Bool). true && not (b && needs_entry x.task.kind)) (new_unblocked x.task.phase new)
+
+queued_watched : (x : TaskSlot) → is_new x.task.phase ≡ true → needs_entry x.task.kind ≡ false
+    → is_watched (slots.with_task (tasks.after (event.Block blocked_at.Entry false) x.task) x) ≡ is_watched x
+queued_watched x new free = ap (λ (b : Bool). true && not (true && b)) free ∙ sym (new_watched x new)
+
+-- It waits: it is watched no more where it waits for exclusive entry, and else is awake no more.
 waits_lists : (t : ℕ) (z : TaskSlot) (n : Held) (b : Bool) → slice_get n.tasks t ≡ Some z → needs_entry z.task.kind ≡ b
-    → ListsBy n (after (if b then Gives (tt {0}) (record n { watched = without t n.watched }) else Gives (tt {0}) n) (λ done p. blocked t blocked_at.Entry false reason.Entry p))
+    → ListsBy n (after (Gives (tt {0}) (record n { watched = parked_by b t n.watched })) (λ done p. blocked t blocked_at.Entry false reason.Entry p))
 unfolding blocked
 waits_lists t z n true here needs =
-    let p : Held = record n { watched = without t n.watched } in
+    let p : Held = record n { watched = unwatched t n.watched } in
     happened_then n p t (event.Block blocked_at.Entry false) (λ done k. after (told (line.Block t reason.Entry) k) (λ done l. left_chain l))
     (λ x is may.
     let y : TaskSlot = slots.with_task (tasks.after (event.Block blocked_at.Entry false) x.task) x in
     let k : Held = with_task t y p in
     lists_behind n k (after (told (line.Block t reason.Entry) k) (λ done l. left_chain l))
-    (lists_park n k t x y is (block_open x may) (apart_unwatched x (ap (λ (s : TaskSlot). needs_entry s.task.kind) (some_same (sym is ∙ here)) ∙ needs)) refl refl refl refl refl refl)
+    (lists_park n k t x y is (block_open x may) (apart_unwatched x (ap (λ (s : TaskSlot). needs_entry s.task.kind) (some_same (sym is ∙ here)) ∙ needs)) refl refl refl refl refl refl refl)
     (lists_after k (told (line.Block t reason.Entry) k) (λ done l. left_chain l) (told_lists (line.Block t reason.Entry) k) (λ done l. left_chain_lists l)))
 waits_lists t z n false here needs =
-    happened_then n n t (event.Block blocked_at.Entry false) (λ done k. after (told (line.Block t reason.Entry) k) (λ done l. left_chain l))
+    let p : Held = record n { watched = asleep t n.watched } in
+    happened_then n p t (event.Block blocked_at.Entry false) (λ done k. after (told (line.Block t reason.Entry) k) (λ done l. left_chain l))
     (λ x is may.
     let y : TaskSlot = slots.with_task (tasks.after (event.Block blocked_at.Entry false) x.task) x in
-    let k : Held = with_task t y n in
+    let k : Held = with_task t y p in
     lists_behind n k (after (told (line.Block t reason.Entry) k) (λ done l. left_chain l))
-    (lists_task n t x y is (block_same x may (ap (λ (s : TaskSlot). needs_entry s.task.kind) (some_same (sym is ∙ here)) ∙ needs)))
+    (lists_queue n k t x y is (block_open x may) (queued_watched x may (ap (λ (s : TaskSlot). needs_entry s.task.kind) (some_same (sym is ∙ here)) ∙ needs)) refl refl refl refl refl refl refl)
     (lists_after k (told (line.Block t reason.Entry) k) (λ done l. left_chain l) (told_lists (line.Block t reason.Entry) k) (λ done l. left_chain_lists l)))
 
 arrived_lists : (t at : ℕ) (z : TaskSlot) (h : Held) (may : Bool) → slice_get h.tasks t ≡ Some z
@@ -145,7 +148,7 @@ arrives_lists h =
     (λ may n. if may then Gives flow.Enters n else after (gate_waited z.instance n) (λ done o. after (parked t x.task.kind o) (λ done p. blocked t blocked_at.Entry false reason.Entry p)))
     (λ i there. arrived_lists t z.instance x h (gate.may_enter x.task.kind true i.gate) is))))
 
--- One enters: it is watched again where it waited.
+-- One enters: it is watched and awake again where it waited.
 enters_open : (x : TaskSlot) → (is_new x.task.phase || tasks.waits_to_enter x.task.phase) ≡ true → is_open (slots.with_task (tasks.after event.Enter x.task) x) ≡ is_open x
 enters_open x may = ap not (sym (entering_open x.task.phase may))
 
@@ -153,7 +156,8 @@ enters_same : (x : TaskSlot) → waits_to_enter x.task.phase ≡ false → (is_n
     → SlotSame x (slots.with_task (tasks.after event.Enter x.task) x)
 enters_same x none may = record {
   exited = sym (entering_open x.task.phase may);
-  apart = ap (λ (b : Bool). b && needs_entry x.task.kind) (sym (not_blocked x.task.phase none));
+  waits = sym (not_blocked x.task.phase none);
+  needs = refl;
   call = refl;
 }
 
@@ -172,7 +176,7 @@ by_wait t at z kind h true here waits =
     (λ i there.
     let k : Held = with_instance at (with_gate (without_wait i.gate) i) h in
     further_tested h (nat_lt 0 i.gate.waiting) (Gives (tt {0}) k) (λ done k. unparked t k) (entered_behind t at kind)
-    (let n : Held = record k { watched = with_number t k.watched } in
+    (let n : Held = record k { watched = watching t k.watched } in
     lists_look h (slice_get n.instances at) (λ j. Gives (tt {0}) (with_instance at (with_gate (gate.entered t kind j.gate) j) n))
     (λ done o. after (happens t event.Enter o) (λ done p. after (raised t state.Started p) (λ done q. told (line.Enter t) q)))
     (λ j beside.
@@ -182,7 +186,7 @@ by_wait t at z kind h true here waits =
     let y : TaskSlot = slots.with_task (tasks.after event.Enter x.task) x in
     let p : Held = with_task t y o in
     lists_behind h p (after (raised t state.Started p) (λ done q. told (line.Enter t) q))
-    (lists_unpark h p t x y is (enters_open x may) refl refl refl refl refl refl refl) (started_lists t p)))))
+    (lists_unpark h p t x y is (enters_open x may) refl refl refl refl refl refl refl refl) (started_lists t p)))))
 by_wait t at z kind h false here waits =
     lists_look h (slice_get h.instances at) (λ j. Gives (tt {0}) (with_instance at (with_gate (gate.entered t kind j.gate) j) h))
     (λ done o. after (happens t event.Enter o) (λ done p. after (raised t state.Started p) (λ done q. told (line.Enter t) q)))

@@ -13,7 +13,7 @@ use Rattle.tasks.specs.Tasks as tasks
 use Rattle.task_table.specs.declared.errand.Errand.TheVariants as errand
 use Rattle.task_table.specs.declared.slot.TaskSlot.{TaskSlot}
 use Rattle.task_table.specs.Slots as slots
-use Rattle.task_table.specs.Tasks.{without}
+use Rattle.task_table.specs.Tasks.{without, unwatched}
 use Rattle.world_parts.specs.declared.parts.Rest.TheVariants as rest
 use Rattle.world_parts.specs.Held.{Held, Gives, Stuck, after, given}
 use Rattle.world_parts.specs.Feed.{at_rest, left_chain}
@@ -33,7 +33,7 @@ init_exits_lists h =
     (λ x is may.
     let y : TaskSlot = slots.with_task (tasks.after event.Exit x.task) x in
     let k : Held = with_task 0 y h in
-    let l : Held = record k { live = without 0 k.live; watched = without 0 k.watched } in
+    let l : Held = record k { live = without 0 k.live; watched = unwatched 0 k.watched } in
     lists_behind h l (after (left_chain l) (λ flow m. Gives (tt {0}) (at_rest rest.Free m))) (lists_close h l 0 x y is refl refl refl refl refl refl refl)
     (lists_after l (left_chain l) (λ flow m. Gives (tt {0}) (at_rest rest.Free m)) (left_chain_lists l) (λ flow m s l. l)))
 

@@ -70,7 +70,7 @@ first_kept call (suc t) e = absurd (cc)
 
 pub first_has_lists : FirstHasLists
 first_has_lists g s = record {
-  opens = record { open_ones = refl; watched_ones = refl };
+  opens = record { open_ones = refl; watched_ones = refl; awake_ones = refl };
   calls = record { made = first_made; kept = first_kept };
   taken = refl;
 }

@@ -4,18 +4,20 @@ use Rattle.std.proofs.Common.{◌≡◌, ℕ, zero, suc, ◌+◌, Bool, true, fa
 use Rattle.std.specs.List.{slice_get}
 use Rattle.script_reader.specs.Script.{Script}
 use Rattle.instances.specs.Instances.{InstanceView}
+use Rattle.entry_gate.specs.Kinds.{needs_entry}
+use Rattle.tasks.specs.Tasks.{waits_to_enter}
 use Rattle.task_table.specs.declared.caller.Caller.{Caller}
 use Rattle.task_table.specs.declared.caller.Caller.TheVariants.{Nobody, Host, Guest}
 use Rattle.task_table.specs.declared.caller.Called.{Called}
 use Rattle.task_table.specs.declared.slot.TaskSlot.{TaskSlot}
 use Rattle.task_table.specs.Callers.{changed}
 use Rattle.task_table.specs.Slots.{has_exited}
-use Rattle.task_table.specs.Tasks.{with_number, without}
+use Rattle.task_table.specs.Tasks.{with_number, without, Watched, watching, unwatched, asleep}
 use Rattle.world_parts.specs.Held.{Held, Done, Gives, Traps, Spent, Stuck, after, given}
 use Rattle.world_parts.specs.Entries.{with_instance}
 use Rattle.world_parts.specs.Slots.{with_task}
 use Rattle.abi_machine.proofs.sound.Found.{some_same}
-use Rattle.run_laws.specs.TaskLists.{numbers_in, is_open, waits_apart, is_watched, call_of, called_at, CallsMarked, ListsMarked, HasLists}
+use Rattle.run_laws.specs.TaskLists.{numbers_in, is_open, waits_apart, is_watched, is_awake, call_of, called_at, CallsMarked, ListsMarked, HasLists}
 use Rattle.run_laws.proofs.lists.Numbers.{numbers_same, numbers_out, numbers_in_one}
 
 -- They stay, whatever the script is.
@@ -76,7 +78,7 @@ pub lists_all : (h k : Held) → k.tasks ≡ h.tasks → k.live ≡ h.live → k
 lists_all h k tasks live watched calls taken s l =
     subst (λ (n : ℕ). ListsMarked s k.live k.watched k.calls n k.tasks) (sym taken)
     (subst (λ (xs : List ℕ). ListsMarked s k.live k.watched xs h.taken k.tasks) (sym calls)
-    (subst (λ (xs : List ℕ). ListsMarked s k.live xs h.calls h.taken k.tasks) (sym watched)
+    (subst (λ (xs : Watched). ListsMarked s k.live xs h.calls h.taken k.tasks) (sym watched)
     (subst (λ (xs : List ℕ). ListsMarked s xs h.watched h.calls h.taken k.tasks) (sym live)
     (subst (λ (xs : List TaskSlot). ListsMarked s h.live h.watched h.calls h.taken xs) (sym tasks) l))))
 
@@ -112,20 +114,28 @@ call_kept f (Guest called) = refl
 -- A task is alike to the lists.
 pub record SlotSame (x y : TaskSlot) : Type 0 where
   pub exited : has_exited y.task.phase ≡ has_exited x.task.phase
-  pub apart : waits_apart y ≡ waits_apart x
+  pub waits : waits_to_enter y.task.phase ≡ waits_to_enter x.task.phase
+  pub needs : needs_entry y.task.kind ≡ needs_entry x.task.kind
   pub call : call_of y.caller ≡ call_of x.caller
 
 open_same : (x y : TaskSlot) → SlotSame x y → is_open y ≡ is_open x
 open_same x y same = ap not same.exited
 
+apart_same : (x y : TaskSlot) → SlotSame x y → waits_apart y ≡ waits_apart x
+apart_same x y same = ap (λ (b : Bool). b && needs_entry y.task.kind) same.waits ∙ ap (λ (b : Bool). waits_to_enter x.task.phase && b) same.needs
+
 watched_same : (x y : TaskSlot) → SlotSame x y → is_watched y ≡ is_watched x
-watched_same x y same = ap (λ (b : Bool). b && not (waits_apart y)) (open_same x y same) ∙ ap (λ (b : Bool). is_open x && not b) same.apart
+watched_same x y same = ap (λ (b : Bool). b && not (waits_apart y)) (open_same x y same) ∙ ap (λ (b : Bool). is_open x && not b) (apart_same x y same)
+
+awake_same : (x y : TaskSlot) → SlotSame x y → is_awake y ≡ is_awake x
+awake_same x y same = ap (λ (b : Bool). b && not (waits_to_enter y.task.phase)) (open_same x y same) ∙ ap (λ (b : Bool). is_open x && not b) same.waits
 
 pub lists_task : (h : Held) (t : ℕ) (x y : TaskSlot) → slice_get h.tasks t ≡ Some x → SlotSame x y → Same h (with_task t y h)
 lists_task h t x y is same s l = record {
   opens = record {
     open_ones = l.opens.open_ones ∙ sym (numbers_same is_open 0 t h.tasks x y is (open_same x y same));
     watched_ones = l.opens.watched_ones ∙ sym (numbers_same is_watched 0 t h.tasks x y is (watched_same x y same));
+    awake_ones = l.opens.awake_ones ∙ sym (numbers_same is_awake 0 t h.tasks x y is (awake_same x y same));
   };
   calls = calls_stay h.calls h.tasks t x y is same.call l.calls;
   taken = l.taken;
@@ -133,49 +143,75 @@ lists_task h t x y is same s l = record {
 
 -- A task that is open no more is in neither list.
 pub lists_close : (h k : Held) (t : ℕ) (x y : TaskSlot) → slice_get h.tasks t ≡ Some x → is_open y ≡ false → call_of y.caller ≡ call_of x.caller → k.tasks ≡ slice_set h.tasks t y
-    → k.live ≡ without t h.live → k.watched ≡ without t h.watched → k.calls ≡ h.calls → k.taken ≡ h.taken → Same h k
+    → k.live ≡ without t h.live → k.watched ≡ unwatched t h.watched → k.calls ≡ h.calls → k.taken ≡ h.taken → Same h k
 lists_close h k t x y is closed call tasks live watched calls taken s l =
     let same : 0 + t ≡ t = omega arith in
-    let now : Held = record (with_task t y h) { live = without t h.live; watched = without t h.watched } in
+    let now : Held = record (with_task t y h) { live = without t h.live; watched = unwatched t h.watched } in
     lists_all now k tasks live watched calls taken s
     (record {
       opens = record {
         open_ones = ap (λ (xs : List ℕ). without t xs) l.opens.open_ones ∙ ap (λ (n : ℕ). without n (numbers_in is_open h.tasks)) (sym same) ∙ sym (numbers_out is_open 0 t h.tasks x y is closed);
         watched_ones = ap (λ (xs : List ℕ). without t xs) l.opens.watched_ones ∙ ap (λ (n : ℕ). without n (numbers_in is_watched h.tasks)) (sym same)
             ∙ sym (numbers_out is_watched 0 t h.tasks x y is (ap (λ (b : Bool). b && not (waits_apart y)) closed));
+        awake_ones = ap (λ (xs : List ℕ). without t xs) l.opens.awake_ones ∙ ap (λ (n : ℕ). without n (numbers_in is_awake h.tasks)) (sym same)
+            ∙ sym (numbers_out is_awake 0 t h.tasks x y is (ap (λ (b : Bool). b && not (waits_to_enter y.task.phase)) closed));
       };
       calls = calls_stay h.calls h.tasks t x y is call l.calls;
       taken = l.taken;
     })
 
--- One that waits for exclusive entry is not watched, and one that does no more is.
-pub lists_park : (h k : Held) (t : ℕ) (x y : TaskSlot) → slice_get h.tasks t ≡ Some x → is_open y ≡ is_open x → is_watched y ≡ false → call_of y.caller ≡ call_of x.caller
-    → k.tasks ≡ slice_set h.tasks t y → k.live ≡ h.live → k.watched ≡ without t h.watched → k.calls ≡ h.calls → k.taken ≡ h.taken → Same h k
-lists_park h k t x y is opens apart call tasks live watched calls taken s l =
+-- One that waits for exclusive entry is not watched; one that waits to enter otherwise is not awake; and one that does so no more is both.
+pub lists_park : (h k : Held) (t : ℕ) (x y : TaskSlot) → slice_get h.tasks t ≡ Some x → is_open y ≡ is_open x → is_watched y ≡ false → is_awake y ≡ false
+    → call_of y.caller ≡ call_of x.caller → k.tasks ≡ slice_set h.tasks t y → k.live ≡ h.live → k.watched ≡ unwatched t h.watched → k.calls ≡ h.calls → k.taken ≡ h.taken
+    → Same h k
+lists_park h k t x y is opens apart sleeps call tasks live watched calls taken s l =
     let same : 0 + t ≡ t = omega arith in
-    let now : Held = record (with_task t y h) { watched = without t h.watched } in
+    let now : Held = record (with_task t y h) { watched = unwatched t h.watched } in
     lists_all now k tasks live watched calls taken s
     (record {
       opens = record {
         open_ones = l.opens.open_ones ∙ sym (numbers_same is_open 0 t h.tasks x y is opens);
         watched_ones = ap (λ (xs : List ℕ). without t xs) l.opens.watched_ones ∙ ap (λ (n : ℕ). without n (numbers_in is_watched h.tasks)) (sym same)
             ∙ sym (numbers_out is_watched 0 t h.tasks x y is apart);
+        awake_ones = ap (λ (xs : List ℕ). without t xs) l.opens.awake_ones ∙ ap (λ (n : ℕ). without n (numbers_in is_awake h.tasks)) (sym same)
+            ∙ sym (numbers_out is_awake 0 t h.tasks x y is sleeps);
       };
       calls = calls_stay h.calls h.tasks t x y is call l.calls;
       taken = l.taken;
     })
 
-pub lists_unpark : (h k : Held) (t : ℕ) (x y : TaskSlot) → slice_get h.tasks t ≡ Some x → is_open y ≡ is_open x → is_watched y ≡ true → call_of y.caller ≡ call_of x.caller
-    → k.tasks ≡ slice_set h.tasks t y → k.live ≡ h.live → k.watched ≡ with_number t h.watched → k.calls ≡ h.calls → k.taken ≡ h.taken → Same h k
-lists_unpark h k t x y is opens watches call tasks live watched calls taken s l =
+pub lists_queue : (h k : Held) (t : ℕ) (x y : TaskSlot) → slice_get h.tasks t ≡ Some x → is_open y ≡ is_open x → is_watched y ≡ is_watched x → is_awake y ≡ false
+    → call_of y.caller ≡ call_of x.caller → k.tasks ≡ slice_set h.tasks t y → k.live ≡ h.live → k.watched ≡ asleep t h.watched → k.calls ≡ h.calls → k.taken ≡ h.taken
+    → Same h k
+lists_queue h k t x y is opens watches sleeps call tasks live watched calls taken s l =
     let same : 0 + t ≡ t = omega arith in
-    let now : Held = record (with_task t y h) { watched = with_number t h.watched } in
+    let now : Held = record (with_task t y h) { watched = asleep t h.watched } in
+    lists_all now k tasks live watched calls taken s
+    (record {
+      opens = record {
+        open_ones = l.opens.open_ones ∙ sym (numbers_same is_open 0 t h.tasks x y is opens);
+        watched_ones = l.opens.watched_ones ∙ sym (numbers_same is_watched 0 t h.tasks x y is watches);
+        awake_ones = ap (λ (xs : List ℕ). without t xs) l.opens.awake_ones ∙ ap (λ (n : ℕ). without n (numbers_in is_awake h.tasks)) (sym same)
+            ∙ sym (numbers_out is_awake 0 t h.tasks x y is sleeps);
+      };
+      calls = calls_stay h.calls h.tasks t x y is call l.calls;
+      taken = l.taken;
+    })
+
+pub lists_unpark : (h k : Held) (t : ℕ) (x y : TaskSlot) → slice_get h.tasks t ≡ Some x → is_open y ≡ is_open x → is_watched y ≡ true → is_awake y ≡ true
+    → call_of y.caller ≡ call_of x.caller → k.tasks ≡ slice_set h.tasks t y → k.live ≡ h.live → k.watched ≡ watching t h.watched → k.calls ≡ h.calls → k.taken ≡ h.taken
+    → Same h k
+lists_unpark h k t x y is opens watches wakes call tasks live watched calls taken s l =
+    let same : 0 + t ≡ t = omega arith in
+    let now : Held = record (with_task t y h) { watched = watching t h.watched } in
     lists_all now k tasks live watched calls taken s
     (record {
       opens = record {
         open_ones = l.opens.open_ones ∙ sym (numbers_same is_open 0 t h.tasks x y is opens);
         watched_ones = ap (λ (xs : List ℕ). with_number t xs) l.opens.watched_ones ∙ ap (λ (n : ℕ). with_number n (numbers_in is_watched h.tasks)) (sym same)
             ∙ sym (numbers_in_one is_watched 0 t h.tasks x y is watches);
+        awake_ones = ap (λ (xs : List ℕ). with_number t xs) l.opens.awake_ones ∙ ap (λ (n : ℕ). with_number n (numbers_in is_awake h.tasks)) (sym same)
+            ∙ sym (numbers_in_one is_awake 0 t h.tasks x y is wakes);
       };
       calls = calls_stay h.calls h.tasks t x y is call l.calls;
       taken = l.taken;

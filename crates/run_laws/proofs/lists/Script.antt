@@ -11,7 +11,7 @@ use Rattle.task_table.specs.declared.caller.Caller.TheVariants.{Host}
 use Rattle.task_table.specs.declared.errand.Callee.TheVariants as callee
 use Rattle.task_table.specs.declared.slot.TaskSlot.{TaskSlot}
 use Rattle.task_table.specs.Slots.{new_slot}
-use Rattle.task_table.specs.Tasks.{with_number}
+use Rattle.task_table.specs.Tasks.{with_number, watching}
 use Rattle.trace_labels.specs.declared.label.Label.TheVariants as line
 use Rattle.world_parts.specs.declared.parts.Flow.TheVariants as flow
 use Rattle.world_parts.specs.declared.parts.Rest.TheVariants as rest
@@ -174,10 +174,10 @@ next_call_keeps_lists s call export instance kind name args h is =
     spent_then s h
     (λ done k. after (Gives (tt {0}) (record k { taken = k.taken + 1 })) (λ done l. after (Gives (length l.tasks) l) (λ t m.
     after (told (line.Take (length m.calls + 1) t name args) m) (λ done n.
-    after (Gives (length n.tasks) (record n { tasks = n.tasks ++ new_slot instance kind (callee.Export export) (Host (length m.calls + 1)) ∷ []; live = with_number (length n.tasks) n.live; watched = with_number (length n.tasks) n.watched })) (λ made o.
+    after (Gives (length n.tasks) (record n { tasks = n.tasks ++ new_slot instance kind (callee.Export export) (Host (length m.calls + 1)) ∷ []; live = with_number (length n.tasks) n.live; watched = watching (length n.tasks) n.watched })) (λ made o.
     after (Gives (tt {0}) (record o { calls = o.calls ++ t ∷ [] })) (λ done p. after (chained t p) (λ done q. Gives flow.Rests (at_rest rest.Arrives q))))))))
     (λ l. record {
-      opens = opens_more h.live h.watched h.tasks slot refl refl l.opens;
+      opens = opens_more h.live h.watched h.tasks slot refl refl refl l.opens;
       calls = calls_made h.calls h.tasks slot refl l.calls;
       taken = one_longer h.calls (length h.tasks) ∙ taken_next s h.taken (length h.calls) (item.Call call) is l.taken;
     })

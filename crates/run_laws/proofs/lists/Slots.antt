@@ -1,8 +1,7 @@
 -- What is told of tasks, and what happens to them: lists of tasks stay as they follow from the tasks.
-use Rattle.std.proofs.Common.{◌≡◌, true, false, not, ◌&&◌, refl, sym, ap, ◌∙◌}
+use Rattle.std.proofs.Common.{◌≡◌, true, false, not, refl, sym, ◌∙◌}
 use Rattle.std.specs.Prelude.{ℕ, Bool, if◌then◌else◌, List, Option, Some, None, Err}
 use Rattle.std.specs.List.{slice_get}
-use Rattle.entry_gate.specs.Kinds.{needs_entry}
 use Rattle.tasks.specs.declared.event.TaskEvent.{TaskEvent}
 use Rattle.tasks.specs.declared.event.TaskEvent.TheVariants as event
 use Rattle.tasks.specs.declared.event.TaskTrap.{TaskTrap}
@@ -134,20 +133,22 @@ event_same (event.Block why flag) x inside may =
     let acts : is_acting x.task.phase ≡ true = blocks_acting (is_entry why) x inside may in
     record {
       exited = sym (acting_open x.task.phase acts);
-      apart = ap (λ (b : Bool). b && needs_entry x.task.kind) (inside ∙ sym (acting_entered x.task.phase acts));
+      waits = inside ∙ sym (acting_entered x.task.phase acts);
+      needs = refl;
       call = refl;
     }
 event_same event.Go x inside may = record {
   exited = sym (inside_open x.task.phase may);
-  apart = ap (λ (b : Bool). b && needs_entry x.task.kind) (sym (inside_entered x.task.phase may));
+  waits = sym (inside_entered x.task.phase may);
+  needs = refl;
   call = refl;
 }
-event_same event.AskReturn x inside may = record { exited = refl; apart = refl; call = refl }
-event_same event.Return x inside may = record { exited = refl; apart = refl; call = refl }
-event_same event.Cancel x inside may = record { exited = refl; apart = refl; call = refl }
-event_same event.Borrow x inside may = record { exited = refl; apart = refl; call = refl }
-event_same event.Unborrow x inside may = record { exited = refl; apart = refl; call = refl }
-event_same event.ToldCancel x inside may = record { exited = refl; apart = refl; call = refl }
+event_same event.AskReturn x inside may = record { exited = refl; waits = refl; needs = refl; call = refl }
+event_same event.Return x inside may = record { exited = refl; waits = refl; needs = refl; call = refl }
+event_same event.Cancel x inside may = record { exited = refl; waits = refl; needs = refl; call = refl }
+event_same event.Borrow x inside may = record { exited = refl; waits = refl; needs = refl; call = refl }
+event_same event.Unborrow x inside may = record { exited = refl; waits = refl; needs = refl; call = refl }
+event_same event.ToldCancel x inside may = record { exited = refl; waits = refl; needs = refl; call = refl }
 event_same event.Exit x inside may = absurd inside
 
 happened_by : (h : Held) (t : ℕ) (b : Bool) (o : Option TaskTrap) (x : TaskSlot) (later : TaskView) → (b ≡ true → o ≡ None → Same h (with_task t (slots.with_task later x) h))
@@ -180,15 +181,15 @@ happened_then h l t e c p =
 
 pub errand_set_lists : (t : ℕ) (errand : Errand) (h : Held) → ListsBy h (errand_set t errand h)
 errand_set_lists t errand h =
-    lists_given h (slice_get h.tasks t) (λ slot. Gives (tt {0}) (with_task t (at_errand errand slot) h)) (λ slot is. lists_task h t slot (at_errand errand slot) is (record { exited = refl; apart = refl; call = refl }))
+    lists_given h (slice_get h.tasks t) (λ slot. Gives (tt {0}) (with_task t (at_errand errand slot) h)) (λ slot is. lists_task h t slot (at_errand errand slot) is (record { exited = refl; waits = refl; needs = refl; call = refl }))
 
 pub words_set_lists : (t : ℕ) (words : List ℕ) (h : Held) → ListsBy h (words_set t words h)
 words_set_lists t words h =
-    lists_given h (slice_get h.tasks t) (λ slot. Gives (tt {0}) (with_task t (at_call words slot) h)) (λ slot is. lists_task h t slot (at_call words slot) is (record { exited = refl; apart = refl; call = refl }))
+    lists_given h (slice_get h.tasks t) (λ slot. Gives (tt {0}) (with_task t (at_call words slot) h)) (λ slot is. lists_task h t slot (at_call words slot) is (record { exited = refl; waits = refl; needs = refl; call = refl }))
 
 pub context_set_lists : (t : ℕ) (number : ℕ) (word : ℕ) (h : Held) → ListsBy h (context_set t number word h)
 context_set_lists t number word h =
-    lists_given h (slice_get h.tasks t) (λ slot. Gives (tt {0}) (with_task t (with_word number word slot) h)) (λ slot is. lists_task h t slot (with_word number word slot) is (record { exited = refl; apart = refl; call = refl }))
+    lists_given h (slice_get h.tasks t) (λ slot. Gives (tt {0}) (with_task t (with_word number word slot) h)) (λ slot is. lists_task h t slot (with_word number word slot) is (record { exited = refl; waits = refl; needs = refl; call = refl }))
 
 pub payload_found_lists : (t : ℕ) (h : Held) → ListsBy h (payload_found t h)
 payload_found_lists t h =
@@ -208,7 +209,7 @@ result_found_lists t h =
 
 -- The call of a task is another one.
 pub called_same : (x : TaskSlot) (f : Called → Called) → SlotSame x (slots.with_called f x)
-called_same x f = record { exited = refl; apart = refl; call = call_kept f x.caller }
+called_same x f = record { exited = refl; waits = refl; needs = refl; call = call_kept f x.caller }
 
 pub raised_lists : (t : ℕ) (state : SubtaskState) (h : Held) → ListsBy h (raised t state h)
 raised_lists t state h =

@@ -17,7 +17,7 @@ use Rattle.task_table.specs.Callers as callers
 use Rattle.task_table.specs.Callers.{may_raise}
 use Rattle.task_table.specs.Slots as slots
 use Rattle.task_table.specs.Slots.{cancel_answer, cancelled_slot, raised_slot}
-use Rattle.task_table.specs.Tasks.{without}
+use Rattle.task_table.specs.Tasks.{without, unwatched}
 use Rattle.trace_labels.specs.declared.label.Label.TheVariants as line
 use Rattle.trace_labels.specs.declared.trap.TrapName.TheVariants as trap
 use Rattle.world_parts.specs.declared.parts.Rest.{Rest}
@@ -63,7 +63,7 @@ removed_lists t behind h x is =
     let same : u ≡ y = some_same (sym found ∙ get_set h.tasks t x y is) in
     let n : Held = record m {
       live = without t m.live;
-      watched = without t m.watched;
+      watched = unwatched t m.watched;
       labels = (m.labels ++ line.Cancelled t ∷ []) ++ line.Exit t ∷ [];
       rest = behind;
     } in
@@ -78,9 +78,9 @@ cancelled_by_lists : (case : Asked) (t : ℕ) (behind : Rest) (h : Held) (x : Ta
     → ListsBy h (cancelled_by case t behind (with_task t (slots.with_task (tasks.cancelled case x.task) x) h))
 cancelled_by_lists asking.Removed t behind h x is = removed_lists t behind h x is
 cancelled_by_lists asking.ResumeNow t behind h x is =
-    lists_task h t x (slots.with_task (tasks.cancelled asking.ResumeNow x.task) x) is (record { exited = refl; apart = refl; call = refl })
+    lists_task h t x (slots.with_task (tasks.cancelled asking.ResumeNow x.task) x) is (record { exited = refl; waits = refl; needs = refl; call = refl })
 cancelled_by_lists asking.Pending t behind h x is =
-    lists_task h t x (slots.with_task (tasks.cancelled asking.Pending x.task) x) is (record { exited = refl; apart = refl; call = refl })
+    lists_task h t x (slots.with_task (tasks.cancelled asking.Pending x.task) x) is (record { exited = refl; waits = refl; needs = refl; call = refl })
 
 asked_lists : (b : Bool) (case : Asked) (t : ℕ) (behind : Rest) (h : Held) (x : TaskSlot) → slice_get h.tasks t ≡ Some x
     → ListsBy h (after (asked_by (if b then Some case else None) t (if b then slots.with_task (tasks.cancelled case x.task) x else x) h) (λ case k. cancelled_by case t behind k))

@@ -16,7 +16,7 @@ use Rattle.task_table.specs.declared.errand.Errand.TheVariants as errand
 use Rattle.task_table.specs.Callers.{new_called}
 use Rattle.task_table.specs.declared.slot.TaskSlot.{TaskSlot}
 use Rattle.task_table.specs.Slots.{new_slot, at_errand}
-use Rattle.task_table.specs.Tasks.{with_number}
+use Rattle.task_table.specs.Tasks.{with_number, watching}
 use Rattle.instances.specs.declared.entry.WorldEntry.TheVariants as entry
 use Rattle.world_parts.specs.Views.{Views}
 use Rattle.trace_labels.specs.declared.label.BlockReason.{BlockReason}
@@ -66,7 +66,7 @@ call_begun_well t canon callee instance kind words h =
     let o : Held = record k {
       tasks = k.tasks ++ slot ∷ [];
       live = with_number (length k.tasks) k.live;
-      watched = with_number (length k.tasks) k.watched;
+      watched = watching (length k.tasks) k.watched;
       labels = k.labels ++ line.Call t made (instance + 1) ∷ [];
       chain = k.chain ++ made ∷ [];
       rest = rest.Arrives;

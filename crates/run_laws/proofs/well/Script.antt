@@ -6,7 +6,7 @@ use Rattle.task_table.specs.declared.caller.Caller.TheVariants.{Host}
 use Rattle.task_table.specs.declared.errand.Callee.TheVariants as callee
 use Rattle.task_table.specs.declared.slot.TaskSlot.{TaskSlot}
 use Rattle.task_table.specs.Slots.{new_slot}
-use Rattle.task_table.specs.Tasks.{with_number}
+use Rattle.task_table.specs.Tasks.{with_number, watching}
 use Rattle.trace_labels.specs.declared.label.Label.TheVariants as line
 use Rattle.trace_labels.specs.declared.typed.TypedValue.{TypedValue}
 use Rattle.world_parts.specs.declared.parts.Rest.TheVariants as rest
@@ -48,7 +48,7 @@ host_new export instance call kind = record { untold = λ called e. absurd (cc);
 
 task_made_well : (slot : TaskSlot) (h : Held) → IsNew slot → KeepsWell h (task_made slot h)
 task_made_well slot h new =
-    well_more h (record h { tasks = h.tasks ++ slot ∷ []; live = with_number (length h.tasks) h.live; watched = with_number (length h.tasks) h.watched }) slot refl new
+    well_more h (record h { tasks = h.tasks ++ slot ∷ []; live = with_number (length h.tasks) h.live; watched = watching (length h.tasks) h.watched }) slot refl new
 
 pub call_taken_well : (export instance : ℕ) (kind : Kind) (name : List ℕ) (args : List TypedValue) (h : Held) → KeepsWell h (call_taken export instance kind name args h)
 unfolding call_taken

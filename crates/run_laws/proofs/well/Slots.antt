@@ -15,7 +15,7 @@ use Rattle.task_table.specs.declared.refusal.EventError.TheVariants as event_err
 use Rattle.task_table.specs.declared.slot.TaskSlot.{TaskSlot}
 use Rattle.task_table.specs.Callers.{called_of, payload_of, may_raise, may_keep}
 use Rattle.task_table.specs.Slots.{event_answer, advanced_slot, cancel_answer, cancelled_slot, is_to_be_told, word_at, with_word, at_errand, at_call, raised_slot, awaited_slot, told_slot, kept_slot}
-use Rattle.task_table.specs.Tasks.{with_number, without}
+use Rattle.task_table.specs.Tasks.{without, unwatched, watching, parked_by}
 use Rattle.world_parts.specs.Held.{Held, Gives, Stuck, after, given}
 use Rattle.world_parts.specs.Gates.{entry_is_free}
 use Rattle.world_parts.specs.Slots.{asked, asked_by, call_made, awaited, callee_of, cancel_asked, cancellable, closed, context_of, context_set, delivered, errand_of, errand_set, happened, happens, instance_of, kind_of, lends_found, next_task, parked, payload_found, phase_of, raised, resolution_of, resolved, result_found, result_kept, state_told, to_be_told, told_by, unasked, unparked, with_task, word_in, word_of, words_of, words_set}
@@ -167,15 +167,15 @@ next_task_well h =
 
 pub closed_well : (t : ℕ) (h : Held) → KeepsWell h (closed t h)
 closed_well t h =
-    well_all h (record h { live = without t h.live; watched = without t h.watched }) refl
+    well_all h (record h { live = without t h.live; watched = unwatched t h.watched }) refl
 
 pub parked_well : (t : ℕ) (kind : Kind) (h : Held) → KeepsWell h (parked t kind h)
 parked_well t kind h =
-    well_if h (needs_entry kind) (Gives (tt {0}) (record h { watched = without t h.watched })) (Gives (tt {0}) h) (well_all h (record h { watched = without t h.watched }) refl) (well_same h)
+    well_all h (record h { watched = parked_by (needs_entry kind) t h.watched }) refl
 
 pub unparked_well : (t : ℕ) (h : Held) → KeepsWell h (unparked t h)
 unparked_well t h =
-    well_all h (record h { watched = with_number t h.watched }) refl
+    well_all h (record h { watched = watching t h.watched }) refl
 
 pub call_made_well : (t : ℕ) (h : Held) → KeepsWell h (call_made t h)
 call_made_well t h =

@@ -14,7 +14,7 @@ use Rattle.task_table.specs.declared.refusal.EventError.TheVariants as event_err
 use Rattle.task_table.specs.declared.slot.TaskSlot.{TaskSlot}
 use Rattle.task_table.specs.Callers.{called_of, payload_of, may_raise, may_keep}
 use Rattle.task_table.specs.Slots.{event_answer, advanced_slot, is_to_be_told, word_at, with_word, at_errand, at_call, raised_slot, awaited_slot, told_slot, kept_slot}
-use Rattle.task_table.specs.Tasks.{with_number, without}
+use Rattle.task_table.specs.Tasks.{with_number, without, unwatched, watching, parked_by}
 use Rattle.world_parts.specs.Held.{Held, Gives, Stuck, after, given}
 use Rattle.world_parts.specs.Gates.{entry_is_free}
 use Rattle.world_parts.specs.Slots.{asked, awaited, call_made, callee_of, cancellable, closed, context_of, context_set, delivered, errand_of, errand_set, happened, happens, instance_of, kind_of, lends_found, next_task, parked, payload_found, phase_of, raised, resolution_of, resolved, result_found, result_kept, state_told, task_made, to_be_told, told_by, unasked, unparked, with_task, word_in, word_of, words_of, words_set}
@@ -156,19 +156,19 @@ next_task_stays h =
 
 pub task_made_stays : (slot : TaskSlot) (h : Held) → slot.task.phase ≡ phase.New → StayBy h (task_made slot h)
 task_made_stays slot h begins =
-    tasks_stay_more h (record h { tasks = h.tasks ++ slot ∷ []; live = with_number (length h.tasks) h.live; watched = with_number (length h.tasks) h.watched }) slot refl refl begins
+    tasks_stay_more h (record h { tasks = h.tasks ++ slot ∷ []; live = with_number (length h.tasks) h.live; watched = watching (length h.tasks) h.watched }) slot refl refl begins
 
 pub closed_stays : (t : ℕ) (h : Held) → StayBy h (closed t h)
 closed_stays t h =
-    stays_all h (record h { live = without t h.live; watched = without t h.watched }) refl refl
+    stays_all h (record h { live = without t h.live; watched = unwatched t h.watched }) refl refl
 
 pub parked_stays : (t : ℕ) (kind : Kind) (h : Held) → StayBy h (parked t kind h)
 parked_stays t kind h =
-    stays_if h (needs_entry kind) (Gives (tt {0}) (record h { watched = without t h.watched })) (Gives (tt {0}) h) (stays_all h (record h { watched = without t h.watched }) refl refl) (stays_same h)
+    stays_all h (record h { watched = parked_by (needs_entry kind) t h.watched }) refl refl
 
 pub unparked_stays : (t : ℕ) (h : Held) → StayBy h (unparked t h)
 unparked_stays t h =
-    stays_all h (record h { watched = with_number t h.watched }) refl refl
+    stays_all h (record h { watched = watching t h.watched }) refl refl
 
 pub call_made_stays : (t : ℕ) (h : Held) → StayBy h (call_made t h)
 call_made_stays t h =

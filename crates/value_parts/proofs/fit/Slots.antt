@@ -19,7 +19,7 @@ use Rattle.task_table.specs.declared.refusal.EventError.TheVariants as event_err
 use Rattle.task_table.specs.declared.slot.TaskSlot.{TaskSlot}
 use Rattle.task_table.specs.Callers.{called_of, payload_of, may_raise, may_keep}
 use Rattle.task_table.specs.Slots.{event_answer, advanced_slot, cancel_answer, cancelled_slot, is_to_be_told, word_at, with_word, at_errand, at_call, raised_slot, awaited_slot, told_slot, kept_slot}
-use Rattle.task_table.specs.Tasks.{with_number, without, is_among_callers}
+use Rattle.task_table.specs.Tasks.{with_number, without, is_among_callers, unwatched, watching, parked_by}
 use Rattle.world_parts.specs.Names.{task_name}
 use Rattle.world_parts.specs.Held.{Held, Done, Gives, Traps, Stuck, after, given}
 use Rattle.world_parts.specs.Gates.{entry_is_free}
@@ -161,19 +161,19 @@ next_task_keeps h =
 
 pub task_made_keeps : (slot : TaskSlot) (h : Held) → KeepsBy h (task_made slot h)
 task_made_keeps slot h =
-    keeps_all h (record h { tasks = h.tasks ++ slot ∷ []; live = with_number (length h.tasks) h.live; watched = with_number (length h.tasks) h.watched }) refl refl
+    keeps_all h (record h { tasks = h.tasks ++ slot ∷ []; live = with_number (length h.tasks) h.live; watched = watching (length h.tasks) h.watched }) refl refl
 
 pub closed_keeps : (t : ℕ) (h : Held) → KeepsBy h (closed t h)
 closed_keeps t h =
-    keeps_all h (record h { live = without t h.live; watched = without t h.watched }) refl refl
+    keeps_all h (record h { live = without t h.live; watched = unwatched t h.watched }) refl refl
 
 pub parked_keeps : (t : ℕ) (kind : Kind) (h : Held) → KeepsBy h (parked t kind h)
 parked_keeps t kind h =
-    keeps_if h (needs_entry kind) (Gives (tt {0}) (record h { watched = without t h.watched })) (Gives (tt {0}) h) (keeps_all h (record h { watched = without t h.watched }) refl refl) (keeps_same h)
+    keeps_all h (record h { watched = parked_by (needs_entry kind) t h.watched }) refl refl
 
 pub unparked_keeps : (t : ℕ) (h : Held) → KeepsBy h (unparked t h)
 unparked_keeps t h =
-    keeps_all h (record h { watched = with_number t h.watched }) refl refl
+    keeps_all h (record h { watched = watching t h.watched }) refl refl
 
 pub call_made_keeps : (t : ℕ) (h : Held) → KeepsBy h (call_made t h)
 call_made_keeps t h =

@@ -19,7 +19,7 @@ use Rattle.task_table.specs.declared.slot.TaskSlot.{TaskSlot}
 use Rattle.task_table.specs.Callers.{called_of, may_keep}
 use Rattle.task_table.specs.Slots as slots
 use Rattle.task_table.specs.Slots.{event_answer, advanced_slot, is_to_be_told, word_at, with_word, at_errand, at_call, kept_slot}
-use Rattle.task_table.specs.Tasks.{with_number, without}
+use Rattle.task_table.specs.Tasks.{with_number, without, unwatched, watching, parked_by}
 use Rattle.world_parts.specs.Held.{Held, Gives, Stuck, after, given}
 use Rattle.world_parts.specs.Gates.{entry_is_free}
 use Rattle.world_parts.specs.Slots.{asked, call_made, callee_of, cancellable, closed, context_of, context_set, delivered, errand_of, errand_set, happened, happens, instance_of, kind_of, lends_found, next_task, parked, payload_found, phase_of, resolution_of, resolved, result_found, result_kept, task_made, to_be_told, unasked, unparked, with_task, word_in, word_of, words_of, words_set}
@@ -163,19 +163,19 @@ next_task_keeps h =
 
 pub task_made_keeps : (slot : TaskSlot) (h : Held) → NumbersThere h → Begins slot → StateMarked (length h.tasks) slot → KeptBy h (task_made slot h)
 task_made_keeps slot h numbers new state =
-    tasks_keep_more h (record h { tasks = h.tasks ++ slot ∷ []; live = with_number (length h.tasks) h.live; watched = with_number (length h.tasks) h.watched }) slot refl refl numbers new state
+    tasks_keep_more h (record h { tasks = h.tasks ++ slot ∷ []; live = with_number (length h.tasks) h.live; watched = watching (length h.tasks) h.watched }) slot refl refl numbers new state
 
 pub closed_keeps : (t : ℕ) (h : Held) → KeptBy h (closed t h)
 closed_keeps t h =
-    keeps_all h (record h { live = without t h.live; watched = without t h.watched }) refl refl
+    keeps_all h (record h { live = without t h.live; watched = unwatched t h.watched }) refl refl
 
 pub parked_keeps : (t : ℕ) (kind : Kind) (h : Held) → KeptBy h (parked t kind h)
 parked_keeps t kind h =
-    keeps_if h (needs_entry kind) (Gives (tt {0}) (record h { watched = without t h.watched })) (Gives (tt {0}) h) (keeps_all h (record h { watched = without t h.watched }) refl refl) (keeps_same h)
+    keeps_all h (record h { watched = parked_by (needs_entry kind) t h.watched }) refl refl
 
 pub unparked_keeps : (t : ℕ) (h : Held) → KeptBy h (unparked t h)
 unparked_keeps t h =
-    keeps_all h (record h { watched = with_number t h.watched }) refl refl
+    keeps_all h (record h { watched = watching t h.watched }) refl refl
 
 pub call_made_keeps : (t : ℕ) (h : Held) → KeptBy h (call_made t h)
 call_made_keeps t h =
