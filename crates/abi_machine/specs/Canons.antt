@@ -7,8 +7,8 @@ use Rattle.std.specs.Option.{option_and_then, option_map}
 use Rattle.wasm_store.specs.Store.{Store, Instance, found_at}
 use Rattle.wasm_store.specs.Instantiation.{External, FuncAddress, TableAddress, MemoryAddress, GlobalAddress}
 use Rattle.wasm_memory.specs.Memories.{MemoryState}
-use Rattle.ca_types.specs.declared.types.ValType.TheVariants as type
-use Rattle.ca_types.specs.declared.types.FuncType.{FuncType}
+use Rattle.syntax_trees.specs.declared.types.ValType.TheVariants as type
+use Rattle.syntax_trees.specs.declared.types.FuncType.{FuncType}
 use Rattle.entry_gate.specs.declared.kind.Kind.{Kind}
 use Rattle.entry_gate.specs.declared.kind.Kind.TheVariants.{Sync, Callback, Stackful}
 use Rattle.builtin_kinds.specs.declared.ResourceOp.{ResourceOp}

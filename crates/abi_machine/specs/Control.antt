@@ -2,7 +2,7 @@
 -- world has this alone may hold functions, those of a lowering that is half done.
 use Rattle.std.specs.Prelude.{ℕ, List, Option}
 use Rattle.wasm_store.specs.Stack.{Stack}
-use Rattle.ca_types.specs.declared.value.Value.{Value}
+use Rattle.syntax_trees.specs.declared.value.Value.{Value}
 use Rattle.stream_ends.specs.declared.side.Side.{Side}
 use Rattle.builtin_kinds.specs.declared.EndKind.{EndKind}
 use Rattle.trace_labels.specs.declared.trap.TrapName.{TrapName}

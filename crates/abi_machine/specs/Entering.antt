@@ -2,8 +2,8 @@
 -- waits to; when it enters, its arguments are lifted from its caller as they are then, and are lowered into its own instance.
 use Rattle.std.specs.Prelude.{ℕ, if◌then◌else◌, [], ◌∷◌}
 use Rattle.wasm_store.specs.Store.{Store}
-use Rattle.ca_types.specs.declared.value.Value.{Value}
-use Rattle.ca_types.specs.declared.value.Value.TheViews as value
+use Rattle.syntax_trees.specs.declared.value.Value.{Value}
+use Rattle.syntax_trees.specs.declared.value.Value.TheViews as value
 use Rattle.comp_graph.specs.declared.graph.CanonFunc.{CanonFunc}
 use Rattle.comp_graph.specs.Graph.{Graph, Lifted}
 use Rattle.trace_labels.specs.declared.label.BlockReason.TheVariants as reason

@@ -3,7 +3,7 @@
 -- task. What was lent or has left stays so where lifting stops.
 use Rattle.std.specs.Prelude.{ℕ, ◌+◌, List, [], ◌∷◌, ◌++◌, Option, Some, None, Result, Ok, Err}
 use Rattle.builtin_kinds.specs.declared.EndKind.{EndKind}
-use Rattle.ca_types.specs.declared.types.ValType.{ValType}
+use Rattle.syntax_trees.specs.declared.types.ValType.{ValType}
 use Rattle.value_lift.specs.declared.trap.LiftTrap.{LiftTrap}
 use Rattle.value_lift.specs.Answers.{counted}
 use Rattle.res_handles.specs.declared.handle.Handle.{Handle}

@@ -9,19 +9,19 @@ use Rattle.std.specs.Option.{option_map}
 use Rattle.std.specs.Int.{w8, w32}
 use Rattle.builtin_kinds.specs.declared.EndKind.{EndKind}
 use Rattle.builtin_kinds.specs.declared.EndKind.TheVariants as end_kind
-use Rattle.ca_types.specs.declared.core_type.CoreType.{CoreType}
-use Rattle.ca_types.specs.declared.types.ValType.{ValType, fold-ValType}
-use Rattle.ca_types.specs.declared.types.ValType.TheOpen.{ValType-F, Field-F, Case-F}
-use Rattle.ca_types.specs.declared.types.ValType.TheFolds.{map-ValType}
-use Rattle.ca_types.specs.declared.types.ValType.TheVariants as types
-use Rattle.ca_types.specs.declared.types.ValType.TheViews as views
-use Rattle.ca_types.specs.declared.types.Field.{Field}
-use Rattle.ca_types.specs.declared.types.Case.{Case}
-use Rattle.ca_types.specs.declared.value.Value.{Value}
-use Rattle.ca_types.specs.declared.value.Value.TheViews as values
-use Rattle.ca_types.specs.declared.value.Value.TheVariants as plain
-use Rattle.ca_types.specs.Layout.{Laid, laid_step, aligned, tag_size, bits_size, top_align, there}
-use Rattle.ca_types.specs.Flat.{flat_step}
+use Rattle.syntax_trees.specs.declared.core_type.CoreType.{CoreType}
+use Rattle.syntax_trees.specs.declared.types.ValType.{ValType, fold-ValType}
+use Rattle.syntax_trees.specs.declared.types.ValType.TheOpen.{ValType-F, Field-F, Case-F}
+use Rattle.syntax_trees.specs.declared.types.ValType.TheFolds.{map-ValType}
+use Rattle.syntax_trees.specs.declared.types.ValType.TheVariants as types
+use Rattle.syntax_trees.specs.declared.types.ValType.TheViews as views
+use Rattle.syntax_trees.specs.declared.types.Field.{Field}
+use Rattle.syntax_trees.specs.declared.types.Case.{Case}
+use Rattle.syntax_trees.specs.declared.value.Value.{Value}
+use Rattle.syntax_trees.specs.declared.value.Value.TheViews as values
+use Rattle.syntax_trees.specs.declared.value.Value.TheVariants as plain
+use Rattle.laid_types.specs.Layout.{Laid, laid_step, aligned, tag_size, bits_size, top_align, there}
+use Rattle.syntax_trees.specs.Flat.{flat_step}
 use Rattle.value_lift.specs.declared.trap.LiftTrap.{LiftTrap}
 use Rattle.value_lift.specs.declared.trap.LiftWhy.TheVariants.{Misaligned, Bounds, BadCase}
 use Rattle.value_lift.specs.Bytes.{number, bytes_at, is_inside, is_aligned, width_of}

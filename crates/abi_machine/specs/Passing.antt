@@ -2,10 +2,10 @@
 -- `canon task.return`, `canon stream.read`): in core values, or in memory, where they have too many core values or where elements are
 -- copied. Arguments are passed as one tuple.
 use Rattle.std.specs.Prelude.{ℕ, nat_lt, Bool, ◌||◌, slice_index, if◌then◌else◌, List, [], ◌∷◌, length, Option, Some}
-use Rattle.ca_types.specs.declared.types.ValType.{ValType}
-use Rattle.ca_types.specs.declared.types.FuncType.{FuncType}
-use Rattle.ca_types.specs.declared.value.Value.{Value}
-use Rattle.ca_types.specs.Flat.{flat_params, flat_payload}
+use Rattle.syntax_trees.specs.declared.types.ValType.{ValType}
+use Rattle.syntax_trees.specs.declared.types.FuncType.{FuncType}
+use Rattle.syntax_trees.specs.declared.value.Value.{Value}
+use Rattle.syntax_trees.specs.Flat.{flat_params, flat_payload}
 use Rattle.value_lift.specs.declared.counting.LiftOf.TheVariants as whole
 use Rattle.value_lift.specs.Lifting.{most}
 use Rattle.comp_graph.specs.Needs.{flat_param_limit, flat_result_limit}

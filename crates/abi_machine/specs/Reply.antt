@@ -1,7 +1,7 @@
 -- Calls of canonical functions (Component Model, CanonicalABI.md, "Canonical Definitions"; "Component Instance
 -- State": `may_leave`): the line comes first. But for words of context and representations none may be called before all is instantiated.
 use Rattle.std.specs.Prelude.{ℕ, slice_index, if◌then◌else◌, List, [], ◌∷◌, Option, Some, None, Result, Ok, Err}
-use Rattle.ca_types.specs.declared.types.ValType.{ValType}
+use Rattle.syntax_trees.specs.declared.types.ValType.{ValType}
 use Rattle.stream_ends.specs.declared.side.Side.{Side}
 use Rattle.stream_ends.specs.declared.side.Side.TheVariants.{Reader, Writer}
 use Rattle.builtin_kinds.specs.declared.ResourceOp.{ResourceOp}

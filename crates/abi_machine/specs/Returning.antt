@@ -4,8 +4,8 @@
 use Rattle.std.specs.Prelude.{ℕ, List, [], ◌∷◌, is_none, Option, Some, None, Ok}
 use Rattle.wasm_store.specs.Store.{Function, found_at}
 use Rattle.wasm_store.specs.Step.{start}
-use Rattle.ca_types.specs.declared.types.ValType.{ValType}
-use Rattle.ca_types.specs.declared.value.Value.{Value}
+use Rattle.syntax_trees.specs.declared.types.ValType.{ValType}
+use Rattle.syntax_trees.specs.declared.value.Value.{Value}
 use Rattle.tasks.specs.declared.phase.Resolution.TheVariants.{Returned}
 use Rattle.tasks.specs.Tasks.{resolving_fault}
 use Rattle.comp_graph.specs.declared.graph.FuncRef.{FuncRef}

@@ -9,8 +9,8 @@ use Rattle.wasm_store.specs.Store as stores
 use Rattle.wasm_store.specs.Store.{Store}
 use Rattle.wasm_store.specs.Stack.{Stack}
 use Rattle.wasm_store.specs.Instantiation.{empty}
-use Rattle.ca_types.specs.declared.types.ValType.{ValType}
-use Rattle.ca_types.specs.declared.value.Value.{Value}
+use Rattle.syntax_trees.specs.declared.types.ValType.{ValType}
+use Rattle.syntax_trees.specs.declared.value.Value.{Value}
 use Rattle.handle_table.specs.History.{Event}
 use Rattle.stream_ends.specs.Ends.{Ends}
 use Rattle.stream_ends.specs.Closed.{new_ends}

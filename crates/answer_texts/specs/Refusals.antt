@@ -18,7 +18,7 @@ use Rattle.link_spec.specs.declared.fault.LinkWhy.{LinkWhy}
 use Rattle.link_spec.specs.declared.fault.LinkWhy.TheVariants as link
 use Rattle.link_spec.specs.declared.fault.LinkFault.{LinkFault}
 use Rattle.trace_show.specs.LabelText.{line}
-use Rattle.ca_types.specs.NameText.{name_text}
+use Rattle.syntax_trees.specs.NameText.{name_text}
 
 -- a reason's name with its argument
 abbrev pub with_argument : List ℕ → List ℕ → List ℕ

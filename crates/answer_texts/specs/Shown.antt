@@ -4,13 +4,13 @@
 use Rattle.std.specs.Prelude.{ℕ, List, [], ◌++◌, Option, Some, None, codes}
 use Rattle.std.specs.List.{flat_map}
 use Rattle.std.specs.Fmt.{decimal}
-use Rattle.ca_types.specs.declared.types.ValType.{ValType}
-use Rattle.ca_types.specs.declared.types.Param.{Param}
-use Rattle.ca_types.specs.declared.exports.Export.{Export}
-use Rattle.ca_types.specs.TypeText.{type_text}
+use Rattle.syntax_trees.specs.declared.types.ValType.{ValType}
+use Rattle.syntax_trees.specs.declared.types.Param.{Param}
+use Rattle.syntax_trees.specs.declared.exports.Export.{Export}
+use Rattle.syntax_trees.specs.TypeText.{type_text}
 use Rattle.comp_graph.specs.Graph.{Graph}
 use Rattle.trace_show.specs.LabelText.{line, listed}
-use Rattle.ca_types.specs.NameText.{name_text}
+use Rattle.syntax_trees.specs.NameText.{name_text}
 
 -- that a component is linked
 abbrev pub accepted_text : List ℕ

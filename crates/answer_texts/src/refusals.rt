@@ -6,11 +6,13 @@ ghost use Rattle.std.specs.Fmt.{decimal};
 ghost use Rattle.trace_show.specs.LabelText.{line};
 ghost use Rattle.answer_texts.specs.Refusals.{with_argument, byte_text, module_why_text, valid_why_text, component_why_text, link_why_text, script_why_text, refused_line, link_refused_line, script_refused_line};
 
-use ca_base::{Bytes, Memory, Refusal, Seq};
+use ca_base::Refusal;
 use comp_reader::ComponentWhy;
+use faults::Memory;
 use link_spec::{LinkFault, LinkWhy};
 use script_reader::{ScriptFault, ScriptWhy};
 use std::alloc::Global;
+use syntax_trees::{Bytes, Seq};
 use trace_show::name_text;
 use wasm_code_reader::ModuleWhy;
 use wasm_typing::ValidWhy;

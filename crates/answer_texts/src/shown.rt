@@ -2,15 +2,16 @@
 
 ghost use Rattle.std.specs.Prelude.{◌≡◌, ◌++◌, OnOk, IfOk, codes};
 ghost use Rattle.std.specs.Fmt.{decimal};
-ghost use Rattle.ca_types.specs.TypeText.{type_text};
+ghost use Rattle.syntax_trees.specs.TypeText.{type_text};
 ghost use Rattle.trace_show.specs.LabelText.{line, listed};
 ghost use Rattle.answer_texts.specs.Shown.{accepted_text, arrow_text, export_line, graph_text, param_text};
 
-use ca_base::{Bytes, Memory, Seq, Text, push_all, push_separated};
-use ca_types::{Export, Param, Shared, ValType};
 use comp_graph::Graph;
+use faults::Memory;
 use std::alloc::Global;
+use syntax_trees::{Bytes, Export, Param, Seq, Shared, ValType};
 use trace_show::{name_text, type_text};
+use value_texts::{Text, push_all, push_separated};
 
 /// The text for a component that is linked.
 const ACCEPTED: &[u8] = b"accepted\n";

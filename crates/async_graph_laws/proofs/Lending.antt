@@ -1,9 +1,9 @@
 -- A graph whose functions give no borrowed handle, and whose built-ins pass none, passes none.
 use Rattle.std.proofs.Common.{◌≡◌, inl, inr, Bool, true, false, Option, Some, None, refl, ◌∙◌, ap}
 use Rattle.std.specs.List.{slice_get, AllByRecursion}
-use Rattle.ca_base.specs.Names.{first_named}
-use Rattle.ca_types.specs.declared.types.FuncType.{FuncType}
-use Rattle.ca_types.specs.declared.exports.Export.{Export}
+use Rattle.syntax_trees.specs.Names.{first_named}
+use Rattle.syntax_trees.specs.declared.types.FuncType.{FuncType}
+use Rattle.syntax_trees.specs.declared.exports.Export.{Export}
 use Rattle.laid_types.specs.Handles.{held_borrow}
 use Rattle.comp_graph.specs.declared.graph.Lift.{Lift}
 use Rattle.comp_graph.specs.declared.graph.CanonFunc.{CanonFunc}

@@ -4,7 +4,7 @@ use Rattle.std.specs.Prelude.{IsSome}
 use Rattle.std.specs.List.{slice_get, AllByRecursion}
 use Rattle.std.specs.Option.{IfSome}
 use Rattle.ca_base.specs.declared.placed.Placed.{Placed}
-use Rattle.ca_types.specs.declared.types.ValType.{ValType}
+use Rattle.syntax_trees.specs.declared.types.ValType.{ValType}
 use Rattle.comp_tree.specs.declared.core_instances.CoreInstance.{CoreInstance}
 use Rattle.comp_tree.specs.declared.core_instances.CoreInstance.TheVariants as made_core
 use Rattle.comp_tree.specs.declared.instances.Instance as made_of

@@ -2,9 +2,9 @@
 use Rattle.std.proofs.Common.{◌≡◌, ◌∙◌, ◌+◌, ℕ, suc, zero, List, [], ◌∷◌, map, Option, Some, None, refl, ap}
 use Rattle.std.specs.List.{slice_get, AllZip}
 use Rattle.std.specs.Option.{option_and_then}
-use Rattle.ca_base.specs.Names.{first_named}
-use Rattle.ca_base.proofs.FirstNamed.{found_by_name}
-use Rattle.ca_types.specs.declared.exports.Export.{Export}
+use Rattle.syntax_trees.specs.Names.{first_named}
+use Rattle.syntax_trees.proofs.FirstNamed.{found_by_name}
+use Rattle.syntax_trees.specs.declared.exports.Export.{Export}
 use Rattle.comp_graph.specs.declared.graph.Lift.{Lift}
 use Rattle.comp_graph.specs.Graph as graph
 use Rattle.comp_graph.specs.Graph.{Graph, Lifted, lifted_as, func_named, names, IsLiftThere}

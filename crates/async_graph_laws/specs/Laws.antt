@@ -1,7 +1,7 @@
 -- What the laws of asynchronous calls ask of a graph, of the graph to which a component is linked (Component Model, Explainer.md, "Instance
 -- Definitions" and "Canonical Definitions"), where it asks something of modules also of one that is read (Binary.md, "Core Definitions").
 use Rattle.std.specs.Prelude.{ℕ, List}
-use Rattle.wasm_module.specs.declared.module.ModuleTree.{ModuleTree}
+use Rattle.syntax_trees.specs.declared.module.ModuleTree.{ModuleTree}
 use Rattle.wasm_typing.specs.Modules.{Typed}
 use Rattle.wasm_store.specs.Instantiation.{InRange}
 use Rattle.comp_tree.specs.declared.items.Component.{Component}

@@ -1,9 +1,9 @@
 //! Files that are read whole, and parts that are written.
 
 use crate::texts::{byte, number, split, text_of, write_value};
-use ca_base::Memory;
 use ca_io::{Failed, Files, MemFiles, MemSink, Sink, read_all, write_all};
 use cases::{Acts, Answers, acted, check_lines};
+use faults::Memory;
 use std::alloc::{AllocError, Global};
 use std::fmt::Write;
 use std::test::Fail;

@@ -1,8 +1,9 @@
 //! A small format: its kinds of items.
 
 use crate::why::Why;
-use ca_base::{Kind, KindOf, Name, ReadError, Window};
+use ca_base::{Kind, KindOf, ReadError, Window};
 use std::alloc::Global;
+use syntax_trees::Name;
 
 /// Two numbers.
 pub struct Pairs;

@@ -4,7 +4,7 @@ use crate::format::{Customs, Marked, Names, Numbers, Pairs};
 use crate::texts::{split, write_error, write_item, write_list, write_read, write_section};
 use crate::why::Why;
 use ca_base::{
-    Kind, KindOf, Name, PlacedOf, ReadError, Seq, SizedOf, VecOf, Window, read_each, read_placed,
+    Kind, KindOf, PlacedOf, ReadError, SizedOf, VecOf, Window, read_each, read_placed,
     read_section, read_sized, read_sized_of, read_times, read_times_of, read_to_the_end, read_vec,
     read_vec_of,
 };
@@ -12,6 +12,7 @@ use cases::{Acts, Answers, acted, bytes_of_lines, check_lines};
 use std::alloc::{AllocError, Global};
 use std::fmt::{Debug, Write};
 use std::test::Fail;
+use syntax_trees::{Name, Seq};
 
 /// A line a reading: the readers in order, the bytes, whose first stands at 100, and what the readers give, with a `;` behind
 /// each.

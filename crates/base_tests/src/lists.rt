@@ -2,15 +2,15 @@
 
 use crate::samples::{AtMost, Decimals, Item, Total};
 use crate::texts::text_of;
-use ca_base::{
-    Memory, Name, Rule, Text, adds, are_distinct, by_name, check_all, find, first_twice, push_all,
-    push_separated, step_all,
-};
+use ca_base::{are_distinct, by_name, find, first_twice};
 use cases::{Answers, check_lines};
+use faults::{Memory, Rule, check_all, step_all};
 use std::alloc::{AllocError, Global};
 use std::collections::BTreeSet;
 use std::fmt::{Debug, Write};
 use std::test::Fail;
+use syntax_trees::{Name, adds};
+use value_texts::{Text, push_all, push_separated};
 
 /// Adds the item of a name.
 fn push_item(alloc: Global, items: &mut Vec<Item>, name: &str) -> Result<(), AllocError> {

@@ -1,7 +1,9 @@
 //! Something with a name, a rule, a state and a text, on which the calls over lists are tried.
 
-use ca_base::{Memory, MemoryOr, Name, Named, Rule, Step, Text};
+use faults::{Memory, MemoryOr, Rule, Step};
 use std::alloc::Global;
+use syntax_trees::{Name, Named};
+use value_texts::Text;
 
 /// What has a name.
 #[derive(Debug, Drop)]

@@ -1,10 +1,11 @@
 //! Answers as texts, and the parts of a line.
 
 use crate::why::Why;
-use ca_base::{ReadError, Refusal, Seq};
+use ca_base::{ReadError, Refusal};
 use std::alloc::AllocError;
 use std::fmt::{Debug, Write};
 use std::str::from_utf8;
+use syntax_trees::Seq;
 
 /// A text up to a mark, and what stands behind it.
 pub(crate) fn split<'a>(text: &'a str, mark: &str) -> (&'a str, &'a str) {

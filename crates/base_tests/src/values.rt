@@ -1,11 +1,12 @@
 //! Lists, places and fuel.
 
 use crate::texts::{byte, number, split, write_value};
-use ca_base::{Bytes, Fuel, Placed, Seq, apart, join};
+use ca_base::{Fuel, Placed, apart, join};
 use cases::{Acts, Answers, acted, check_lines};
 use std::alloc::{AllocError, Global};
 use std::mem::replace;
 use std::test::Fail;
+use syntax_trees::{Bytes, Seq};
 
 /// A line what is done to so many units of fuel and an empty list, and what is answered. `spend` spends a unit, and `take`
 /// takes all items of the list. `apart` takes items with their places apart, and `join` does so once lists of them, with a `/`

@@ -12,7 +12,7 @@ use Rattle.comp_graph.specs.declared.graph.CanonFunc.{CanonFunc}
 use Rattle.comp_graph.specs.declared.graph.CanonFunc.TheVariants as canon_func
 use Rattle.comp_graph.specs.declared.graph.Lower.{Lower}
 use Rattle.comp_graph.specs.declared.graph.Lift.{Lift}
-use Rattle.ca_types.specs.declared.exports.Export.{Export}
+use Rattle.syntax_trees.specs.declared.exports.Export.{Export}
 use Rattle.comp_graph.specs.Graph.{Graph, Lifted, func_named, func_at, lifted_as}
 use Rattle.comp_graph.specs.Running.{IsSyncCanon}
 use Rattle.script_reader.specs.declared.script.Call.{Call}

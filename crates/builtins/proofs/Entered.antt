@@ -7,7 +7,7 @@ use Rattle.wasm_store.specs.Store.{Function, Store, found_at}
 use Rattle.wasm_store.specs.Stack.{Stack}
 use Rattle.wasm_store.specs.Step.{start}
 use Rattle.wasm_store.proofs.Lists.{found_there}
-use Rattle.ca_types.specs.declared.value.Value.{Value}
+use Rattle.syntax_trees.specs.declared.value.Value.{Value}
 use Rattle.value_lower.specs.Plan.{Plan}
 use Rattle.copy_engine.specs.declared.nested.HostCall.{HostCall}
 use Rattle.copy_engine.specs.declared.store_room.LowerOptions.{LowerOptions}

@@ -31,9 +31,9 @@ use Rattle.world.specs.Next.{next}
 use Rattle.world.specs.declared.run_end.RunEnd.TheVariants.{Fuel}
 use Rattle.trace_labels.specs.declared.label.Label.TheVariants as line
 use Rattle.trace_labels.specs.declared.trap.TrapName.TheVariants as trap
-use Rattle.wasm_module.specs.declared.types.FuncType.{FuncType}
-use Rattle.wasm_module.specs.declared.types.ValType.TheVariants.{I32}
-use Rattle.wasm_module.specs.SameTypes.{same_types}
+use Rattle.syntax_trees.specs.declared.module_types.FuncType.{FuncType}
+use Rattle.syntax_trees.specs.declared.module_types.ValType.TheVariants.{I32}
+use Rattle.syntax_trees.specs.SameTypes.{same_types}
 use Rattle.value_lower.specs.declared.ends.LowerWhy.{LowerWhy}
 use Rattle.world.specs.Kept.{IsFunction}
 use Rattle.world.proofs.Apart.{never_stuck}

@@ -3,7 +3,7 @@ use Rattle.std.proofs.Common.{◌≡◌, ◌<◌, ◌≤◌, ℕ, List, [], ◌�
 use Rattle.std.proofs.lemmas.Option.{slice_get_within}
 use Rattle.std.specs.List.{slice_get}
 use Rattle.std.specs.Option.{IsSome, option_map}
-use Rattle.wasm_module.specs.declared.types.ValType.{ValType}
+use Rattle.syntax_trees.specs.declared.module_types.ValType.{ValType}
 use Rattle.wasm_store.specs.declared.trap.Trap.{Trap}
 use Rattle.wasm_store.specs.Store.{Function, Store, found_at}
 use Rattle.wasm_store.specs.Stack.{Stack}

@@ -3,8 +3,8 @@ use Rattle.std.proofs.Common.{◌≡◌, ◌<◌, ◌≤◌, true, ◌⊎◌, in
 use Rattle.std.specs.List.{slice_get, AllByRecursion}
 use Rattle.std.specs.Option.{IfSome, option_map}
 use Rattle.std.proofs.lemmas.Option.{slice_get_within}
-use Rattle.ca_types.specs.declared.value.Value.{Value}
-use Rattle.ca_types.specs.Fits.{fits}
+use Rattle.syntax_trees.specs.declared.value.Value.{Value}
+use Rattle.syntax_trees.specs.Fits.{fits}
 use Rattle.lowering_laws.proofs.Ranged.{fit as fit_of}
 use Rattle.value_lower.specs.Plan.{Plan}
 use Rattle.copy_engine.specs.declared.nested.HostCall.{HostCall}
@@ -29,8 +29,8 @@ use Rattle.wasm_store.specs.Laws.{MoveTyped}
 use Rattle.wasm_store.specs.Typed.{StackTyped}
 use Rattle.wasm_store.proofs.Moving.{moves_typed}
 use Rattle.value_lift.specs.declared.trap.LiftTrap.{LiftTrap}
-use Rattle.ca_types.specs.declared.types.ValType.{ValType}
-use Rattle.ca_types.specs.declared.types.FuncType.{FuncType}
+use Rattle.syntax_trees.specs.declared.types.ValType.{ValType}
+use Rattle.syntax_trees.specs.declared.types.FuncType.{FuncType}
 use Rattle.comp_graph.specs.declared.graph.Lower.{Lower}
 use Rattle.comp_graph.specs.declared.graph.CanonFunc.{CanonFunc}
 use Rattle.comp_graph.specs.declared.graph.CanonFunc.TheVariants as canon_func

@@ -2,10 +2,10 @@
 -- value goes and what comes of it.
 use Rattle.std.specs.Prelude.{◌≡◌, ℕ, List, [], Option, Some, None, Result, Ok, Err, IfOk}
 use Rattle.std.specs.Option.{IsSome}
-use Rattle.ca_base.specs.declared.memory.Memory.{Memory as Want}
+use Rattle.faults.specs.declared.memory.Memory.{Memory as Want}
 use Rattle.wasm_store.specs.Store.{Store}
-use Rattle.ca_types.specs.declared.types.ValType.{ValType}
-use Rattle.ca_types.specs.declared.value.Value.{Value}
+use Rattle.syntax_trees.specs.declared.types.ValType.{ValType}
+use Rattle.syntax_trees.specs.declared.value.Value.{Value}
 use Rattle.value_lower.specs.Plan.{Plan}
 use Rattle.value_lower.specs.Following as follow
 use Rattle.value_lower.specs.Lowering.{flat_lowered, placed, stored}

@@ -13,10 +13,11 @@ ghost use Rattle.builtins.specs.NextTask.{BeginsCall, IsTrapOrFuel};
 ghost use Rattle.builtins.specs.Reentering.{calls_into, reenters};
 ghost use Rattle.builtins.specs.Telling.{AddsCall};
 
-use ca_base::{Memory, Seq};
 use comp_graph::{CanonFunc, Graph};
+use faults::Memory;
 use script_reader::Script;
 use std::alloc::Global;
+use syntax_trees::Seq;
 use trace_labels::{Label, TrapName};
 use wasm_execution::Words;
 use world::{

@@ -1,11 +1,11 @@
 //! The entry of tasks.
 
 ghost use Rattle.std.specs.Prelude.{◌≡◌, ◌≤◌, true, false, [], ◌∷◌, length, IfOk, MatchResult};
-ghost use Rattle.ca_types.specs.declared.types.FuncType.{FuncType};
-ghost use Rattle.ca_types.specs.declared.value.Value.{Value};
-ghost use Rattle.ca_types.specs.Fits.{fits};
-ghost use Rattle.ca_types.specs.Flat.{flat};
-ghost use Rattle.ca_types.specs.Ends.{has_end};
+ghost use Rattle.syntax_trees.specs.declared.types.FuncType.{FuncType};
+ghost use Rattle.syntax_trees.specs.declared.value.Value.{Value};
+ghost use Rattle.syntax_trees.specs.Fits.{fits};
+ghost use Rattle.syntax_trees.specs.Flat.{flat};
+ghost use Rattle.syntax_trees.specs.Ends.{has_end};
 ghost use Rattle.laid_types.specs.Handles.{has_handle};
 ghost use Rattle.comp_graph.specs.Passed.{ArePassed};
 ghost use Rattle.world.specs.Passing.{arguments_plan, params_type};
@@ -23,12 +23,12 @@ ghost use Rattle.builtins.specs.Telling.{Adds, AddsOnly, IsOfEntry, IsStart, IsT
 
 use crate::lower_options::lower_options;
 use crate::lower_values::{Lowered, Target, lower};
-use ca_base::{Memory, MemoryOr};
-use ca_types::Value;
 use copy_engine::HostCall;
+use faults::{Memory, MemoryOr};
 use laid_types::LaidType;
 use script_reader::Script;
 use std::alloc::Global;
+use syntax_trees::Value;
 use trace_labels::Label;
 use wasm_execution::{Running, start};
 use world::{

@@ -12,7 +12,7 @@ ghost use Rattle.builtins.specs.Telling.{Adds, AddsExit};
 
 use crate::next_task::Leaving;
 use crate::returning::resolve;
-use ca_base::Memory;
+use faults::Memory;
 use script_reader::Script;
 use std::alloc::Global;
 use trace_labels::Label;

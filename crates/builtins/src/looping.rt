@@ -12,7 +12,7 @@ use crate::calling::begin_call;
 use crate::entering::enter;
 use crate::leaving::{finish, go_back};
 use crate::next_task::{Leaving, Onward};
-use ca_base::Memory;
+use faults::Memory;
 use script_reader::Script;
 use std::alloc::Global;
 use wasm_execution::{Running, Words};

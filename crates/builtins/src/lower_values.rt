@@ -1,9 +1,9 @@
 //! Values that are lowered over the store of a run.
 
 ghost use Rattle.std.specs.Prelude.{◌≡◌, ◌≤◌, false, true, length, None, IfOk};
-ghost use Rattle.ca_types.specs.Ends.{has_end};
-ghost use Rattle.ca_types.specs.Fits.{fits};
-ghost use Rattle.ca_types.specs.Flat.{flat};
+ghost use Rattle.syntax_trees.specs.Ends.{has_end};
+ghost use Rattle.syntax_trees.specs.Fits.{fits};
+ghost use Rattle.syntax_trees.specs.Flat.{flat};
 ghost use Rattle.laid_types.specs.Handles.{has_handle};
 ghost use Rattle.comp_graph.specs.Graph.{Graph};
 ghost use Rattle.script_reader.specs.Script.{Script};
@@ -13,11 +13,12 @@ ghost use Rattle.copy_engine.specs.Rooms.{Same, IfTold, Lowers, state_of};
 ghost use Rattle.world.specs.Parts.{WithUsed};
 ghost use Rattle.builtins.specs.Lowering.{plan_to, IsAtLowering, LoweredLeads, CanTellTrap, TellsTrap, CanTell, Tells, PlanComesTo, IsCame};
 
-use ca_base::{Fuel, Memory, Seq};
-use ca_types::Value;
+use ca_base::Fuel;
 use copy_engine::{HostCall, LowerOptions, NestedTrap, StoreRoom, Taken};
+use faults::Memory;
 use laid_types::LaidType;
 use std::alloc::Global;
+use syntax_trees::{Seq, Value};
 use trace_labels::TrapName;
 use value_lower::{LowerError, LowerWhy, RoomEnd};
 use wasm_execution::Words;

@@ -1,9 +1,9 @@
 //! Results that are lowered into the tasks that wait for them.
 
 ghost use Rattle.std.specs.Prelude.{◌≡◌, ◌<◌, ◌≤◌, [], IfOk, MatchResult, Some, Ok, length};
-ghost use Rattle.ca_types.specs.declared.types.FuncType.{FuncType};
-ghost use Rattle.ca_types.specs.declared.value.Value.{Value};
-ghost use Rattle.ca_types.specs.Flat.{flat};
+ghost use Rattle.syntax_trees.specs.declared.types.FuncType.{FuncType};
+ghost use Rattle.syntax_trees.specs.declared.value.Value.{Value};
+ghost use Rattle.syntax_trees.specs.Flat.{flat};
 ghost use Rattle.wasm_numbers.specs.Types.{AreWords};
 ghost use Rattle.comp_graph.specs.Needs.{lowered_type};
 ghost use Rattle.world.specs.Passing.{last_of, result_plan};
@@ -24,8 +24,8 @@ ghost use Rattle.world.specs.Seen.{IsCalled, waiters, IsAtReturn, EndsBy};
 use crate::calling::innermost;
 use crate::lower_options::lower_options;
 use crate::lower_values::{Lowered, Target, lower};
-use ca_base::Memory;
 use copy_engine::HostCall;
+use faults::Memory;
 use laid_types::LaidType;
 use script_reader::Script;
 use std::alloc::Global;

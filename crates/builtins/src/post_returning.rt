@@ -9,8 +9,8 @@ ghost use Rattle.world.specs.Starting.{GoesOrEnds};
 ghost use Rattle.builtins.specs.NextTask.{MayStop, SpendsOrEnds};
 ghost use Rattle.builtins.specs.Telling.{AddsOnly, IsOfReturn};
 
-use ca_base::Memory;
 use comp_graph::Graph;
+use faults::Memory;
 use script_reader::Script;
 use std::alloc::Global;
 use wasm_execution::{Outcome, Running, run, start};

@@ -17,9 +17,10 @@ ghost use Rattle.builtins.specs.Telling.{AddsOnly, IsOfReturn};
 
 use crate::passing::lower_result;
 use crate::post_returning::post_return;
-use ca_base::{Memory, MemoryOr, Seq};
+use faults::{Memory, MemoryOr};
 use script_reader::Script;
 use std::alloc::Global;
+use syntax_trees::Seq;
 use trace_labels::{Label, TypedValue};
 use wasm_execution::Words;
 use world::{CalledFunc, NamedGraph, RunEnd, RunState, called_func, lift_name, lifted_result};

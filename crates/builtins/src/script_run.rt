@@ -8,10 +8,11 @@ ghost use Rattle.world.specs.Seen.{IsAtPlan, EndsBy};
 ghost use Rattle.builtins.specs.Ran.{IsRunOf};
 
 use crate::looping::run_items;
-use ca_base::{Memory, Seq};
 use comp_graph::Graph;
+use faults::Memory;
 use script_reader::Script;
 use std::alloc::Global;
+use syntax_trees::Seq;
 use trace_labels::Label;
 use wasm_store::Store;
 use world::{NamedGraph, RunEnd, RunState, canon_func_types, give_up_all, instantiate};

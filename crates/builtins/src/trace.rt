@@ -5,10 +5,12 @@ ghost use Rattle.trace_show.specs.LabelText.{label_text, trace_text};
 ghost use Rattle.world.specs.Run.{end_label, trace_of};
 
 use crate::script_run::Run;
-use ca_base::{Bytes, Memory, Seq, Text, push_all};
+use faults::Memory;
 use std::alloc::Global;
+use syntax_trees::{Bytes, Seq};
 use trace_labels::Label;
 use trace_show::label_text;
+use value_texts::{Text, push_all};
 use world::RunEnd;
 
 /// Labels, a line for each.

@@ -1,12 +1,9 @@
-pub mod Distinct
 pub mod Eachs
 pub mod Laws
 pub mod Leb
 pub mod Left
 pub mod Many
-pub mod FirstNamed
 pub mod Places
-pub mod Seen
 pub mod Sizes
 pub mod Times
 pub mod Utf8

@@ -4,8 +4,8 @@ use Rattle.std.specs.Result.{IfOk, IfErr}
 use Rattle.ca_base.specs.Span.{Span}
 use Rattle.ca_base.specs.Grammar.{Grammar, read, Matches, Refuses, MayRead, IsDecided}
 use Rattle.ca_base.specs.declared.refusal.Refusal.{Refusal}
-use Rattle.ca_base.specs.declared.memory.MemoryOr.{MemoryOr}
-use Rattle.ca_base.specs.declared.memory.MemoryOr.TheVariants.{Memory, Fault}
+use Rattle.faults.specs.declared.memory.MemoryOr.{MemoryOr}
+use Rattle.faults.specs.declared.memory.MemoryOr.TheVariants.{Memory, Fault}
 use Rattle.ca_base.proofs.Laws.{reads_matches, matches_reads, reads_refuses}
 
 -- what is read comes to that end

@@ -6,8 +6,8 @@
 use Rattle.std.specs.Prelude.{◌≡◌, ◌≢◌, ◌<◌, ◌≤◌, ◌==◌, ◌+◌, ℕ, zero, suc, Bool, MatchBool, List, [], ◌∷◌, length, take, nat_lt, if◌then◌else◌, Result, Ok, Err, ◌⊎◌, Option, Some, None}
 use Rattle.ca_base.specs.Span.{Span, behind, window}
 use Rattle.ca_base.specs.declared.refusal.Refusal.{Refusal}
-use Rattle.ca_base.specs.declared.memory.MemoryOr.{MemoryOr}
-use Rattle.ca_base.specs.declared.memory.MemoryOr.TheVariants.{Memory, Fault}
+use Rattle.faults.specs.declared.memory.MemoryOr.{MemoryOr}
+use Rattle.faults.specs.declared.memory.MemoryOr.TheVariants.{Memory, Fault}
 
 -- a grammar of items of type A, whose refusals have reasons of type W
 pub data Grammar : Type 0 → Type 0 → Type 1 where

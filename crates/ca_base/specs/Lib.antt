@@ -1,9 +1,5 @@
-pub mod formers
-pub mod Faults
 pub mod Grammar
 pub mod Items
-pub mod Names
 pub mod Numbers
 pub mod Span
 pub mod Tables
-pub mod Texts

@@ -9,10 +9,10 @@ ghost use Rattle.ca_base.specs.Items.{vec, placed, section, sized, to_the_end};
 use crate::placed::Placed;
 use crate::reason::{NumberReason, Reason};
 use crate::refusal::ReadError;
-use crate::seq::Seq;
 use crate::window::Window;
 use std::alloc::Global;
 use std::marker::PhantomData;
+use syntax_trees::Seq;
 
 /// A kind of items.
 pub trait Kind {

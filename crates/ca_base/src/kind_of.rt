@@ -5,9 +5,9 @@ ghost use Rattle.ca_base.specs.Items.{each, sized, vec};
 
 use crate::reason::{NumberReason, Reason};
 use crate::refusal::ReadError;
-use crate::seq::Seq;
 use crate::window::Window;
 use std::alloc::Global;
+use syntax_trees::Seq;
 
 /// A kind of items, as a value tells it.
 pub trait KindOf {

@@ -1,4 +1,5 @@
-//! The base of every layer: bytes that are read item by item, names, lists and their first faults, and fuel.
+//! The base of all that reads: bytes that are read item by item, look-ups by name, and fuel. Lists and names, which stand in
+//! `syntax_trees`, and want of memory and first faults, in `faults`, are handed on.
 //!
 //! A format is a grammar of `specs/Grammar`, and its reader is made of calls of `Window`. Each call reads exactly what
 //! its grammar stands for, or answers the first place at which the bytes leave it, with the reason. Every grammar stands
@@ -10,13 +11,9 @@
 //! - `window`, `items` and `ending`: a part of a file that is read, and the items that the formats share
 //! - `kind` and `kind_of`: the loops over items, written once for all kinds of items
 //! - `numbers`: numbers that are read
-//! - `name` and `names`: a name; names that stand twice, and look-ups by name
+//! - `names`: names that stand twice, and look-ups by name
 //! - `placed`: items with their places
 //! - `reason` and `refusal`: why and where bytes are refused
-//! - `seq`: the lists of public types
-//! - `rule` and `step`: the first fault of a list of items, and a state that goes over one
-//! - `text`: texts of lists of items
-//! - `memory`: want of memory, and faults beside it
 //! - `fuel`: a budget of work
 #![tactic(auto)]
 
@@ -26,34 +23,24 @@ mod fuel;
 mod items;
 mod kind;
 mod kind_of;
-mod memory;
-mod name;
 mod names;
 mod numbers;
 mod placed;
 mod reason;
 mod refusal;
-mod rule;
-mod seq;
-mod step;
-mod text;
 mod window;
 
 pub use cursor::{ByteFault, ByteWhy, Cursor};
+pub use faults::{Memory, MemoryOr, Rule, Step, check_all, step_all};
 pub use fuel::Fuel;
 pub use kind::{
     Kind, PlacedOf, SizedOf, VecOf, read_placed, read_section, read_sized, read_times,
     read_to_the_end, read_vec,
 };
 pub use kind_of::{KindOf, read_each, read_sized_of, read_times_of, read_vec_of};
-pub use memory::{Memory, MemoryOr};
-pub use name::Name;
-pub use names::{Named, adds, are_distinct, by_name, find, first_twice};
+pub use names::{are_distinct, by_name, find, first_twice};
 pub use placed::{Placed, apart, join};
 pub use reason::{NumberReason, Reason};
 pub use refusal::{ReadError, Refusal};
-pub use rule::{Rule, check_all};
-pub use seq::{Bytes, Seq};
-pub use step::{Step, step_all};
-pub use text::{Text, push_all, push_separated};
+pub use syntax_trees::{Bytes, Name, Named, Seq, adds};
 pub use window::Window;

@@ -1,33 +1,11 @@
 //! Names that stand twice, and look-ups by name.
 
-ghost use Rattle.std.specs.Prelude.{◌≡◌, ℕ, List, IfOk, OnOk, OnErr, not, ◌||◌, ◌↔◌, IsTrue, map};
-ghost use Rattle.std.specs.Str.{bytes_eq};
-ghost use Rattle.ca_base.specs.Names.{first_twice, first_named, at_name, has, AreDistinct};
+ghost use Rattle.std.specs.Prelude.{◌≡◌, ℕ, List, IfOk, ◌↔◌, IsTrue, map};
+ghost use Rattle.syntax_trees.specs.Names.{first_twice, first_named, at_name, AreDistinct};
 
 use std::alloc::{AllocError, Global};
 use std::collections::{BTreeMap, BTreeSet};
-
-/// What has a name.
-pub trait Named {
-    ghost use Rattle.std.specs.Prelude.{ℕ, List};
-
-    /// The name's bytes.
-    ghost name: { Self → List ℕ };
-
-    /// The name.
-    fn name(&self) -> &str
-        ensures { result.now ≡ name self.now };
-}
-
-/// Adds a name to a set, and answers whether it is new. It fails for want of memory alone, and then leaves the set as it
-/// was.
-pub fn adds<'a>(seen: &mut BTreeSet<&'a str>, name: &'a str) -> Result<bool, AllocError>
-    ensures new { IfOk result (λ added. added ≡ not (has seen.old name.now)) }
-    ensures all { OnOk result ((q : List ℕ) → has seen.new q ≡ (bytes_eq name.now q || has seen.old q)) }
-    ensures err { OnErr result (seen.new.keys ≡ seen.old.keys) }
-{
-    Ok(seen.insert(name)?)
-}
+use syntax_trees::{Named, adds};
 
 /// The number of the first item whose name stands before, or none. It fails for want of memory alone.
 pub fn first_twice<T: Named>(alloc: Global, items: &[T]) -> Result<Option<usize>, AllocError>
@@ -43,7 +21,7 @@ pub fn first_twice<T: Named>(alloc: Global, items: &[T]) -> Result<Option<usize>
 }
 
 /// Whether no two items have one name. It fails for want of memory alone.
-#[tactic(auto, using(crate::proofs::Distinct::distinct_law))]
+#[tactic(auto, using(syntax_trees::proofs::Distinct::distinct_law))]
 pub fn are_distinct<T: Named>(alloc: Global, items: &[T]) -> Result<bool, AllocError>
     ensures { IfOk result (λ distinct. IsTrue distinct ↔ AreDistinct (map T.name items.now)) }
 {

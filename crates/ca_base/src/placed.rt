@@ -3,8 +3,8 @@
 ghost use Rattle.std.specs.Prelude.{◌≡◌, IfOk, map};
 ghost use Rattle.ca_base.specs.Items.{joined};
 
-use crate::seq::Seq;
 use std::alloc::{AllocError, Global};
+use syntax_trees::Seq;
 
 /// An item, and where it stands.
 #[derive(Clone, Copy, Debug, Drop)]

@@ -2,7 +2,7 @@
 
 ghost use Rattle.std.specs.Prelude.{◌≡◌};
 
-use crate::memory::MemoryOr;
+use faults::MemoryOr;
 use std::fmt;
 use thiserror::Error;
 
@@ -21,7 +21,7 @@ pub struct Refusal<W> {
 pub type ReadError<W> = MemoryOr<Refusal<W>>;
 
 impl<W> From<Refusal<W>> for MemoryOr<Refusal<W>> {
-    ghost use Rattle.ca_base.specs.declared.memory.MemoryOr.TheVariants.{Fault};
+    ghost use Rattle.faults.specs.declared.memory.MemoryOr.TheVariants.{Fault};
 
     ghost from_gives = { λ refusal e. e ≡ Fault refusal };
 

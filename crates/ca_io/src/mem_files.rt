@@ -10,7 +10,7 @@ ghost use Rattle.ca_io.specs.MemFiles.{held_in, with_file, after_read};
 
 use crate::failed::Failed;
 use crate::files::Files;
-use ca_base::Memory;
+use faults::Memory;
 use std::alloc::Global;
 use std::marker::Model;
 

@@ -8,7 +8,7 @@ ghost use Rattle.ca_io.specs.MemSink.{IsFull, after_write};
 
 use crate::failed::Failed;
 use crate::sink::Sink;
-use ca_base::Memory;
+use faults::Memory;
 use std::alloc::Global;
 use std::marker::Model;
 

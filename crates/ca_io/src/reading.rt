@@ -5,8 +5,8 @@ ghost use Rattle.ca_io.specs.Reading.{HasReadCause};
 
 use crate::failed::Failed;
 use crate::files::Files;
-use ca_base::{Bytes, Seq};
 use std::alloc::{AllocError, Global};
+use syntax_trees::{Bytes, Seq};
 use thiserror::Error;
 
 /// Why a file was not read whole.

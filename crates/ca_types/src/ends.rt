@@ -1,9 +1,9 @@
 //! Which types hold the end of a stream or a future.
 
 ghost use Rattle.std.specs.Prelude.{◌≡◌};
-ghost use Rattle.ca_types.specs.Ends.{has_end};
+ghost use Rattle.syntax_trees.specs.Ends.{has_end};
 
-use crate::types::ValType;
+use syntax_trees::ValType;
 
 /// Whether values of this type hold the end of a stream or a future.
 pub fn has_end(val_type: &ValType) -> bool

@@ -1,17 +1,13 @@
 //! Whether values are of their types.
 
 ghost use Rattle.std.specs.Prelude.{◌≡◌, map};
-ghost use Rattle.ca_types.specs.Fits.{fits, test_of, payload_test, each_passes, all_pass, payload_passes};
+ghost use Rattle.syntax_trees.specs.Fits.{fits, test_of, payload_test, each_passes, all_pass, payload_passes};
 
-use crate::boxed::Boxed;
-use crate::items::item_at;
-use crate::shared::Shared;
-use crate::types::{Field, ValType};
-use crate::value::Value;
+use syntax_trees::{Boxed, Field, Shared, ValType, Value, item_at};
 
 /// Whether there are as many values as fields, each of the type of its field.
 #[cycle(fits)]
-#[tactic(auto, using(crate::proofs::FitsEquations::passes_no_other_length, crate::proofs::FitsEquations::fits_of_tuple, crate::proofs::FitsEquations::fits_of_record, crate::proofs::FitsEquations::fits_of_variant, crate::proofs::FitsEquations::fits_of_result, crate::proofs::FitsEquations::passes_case, crate::proofs::FitsEquations::passes_no_case))]
+#[tactic(auto, using(syntax_trees::proofs::FitsEquations::passes_no_other_length, syntax_trees::proofs::FitsEquations::fits_of_tuple, syntax_trees::proofs::FitsEquations::fits_of_record, syntax_trees::proofs::FitsEquations::fits_of_variant, syntax_trees::proofs::FitsEquations::fits_of_result, syntax_trees::proofs::FitsEquations::passes_case, syntax_trees::proofs::FitsEquations::passes_no_case))]
 fn fields_fit(values: &[Value], fields: &[Field]) -> bool
     ensures { result ≡ each_passes (map (λ f. test_of f.val_type) fields.now) values.now }
 {
@@ -28,7 +24,7 @@ fn fields_fit(values: &[Value], fields: &[Field]) -> bool
 
 /// Whether there are as many values as types, each of its type.
 #[cycle(fits)]
-#[tactic(auto, using(crate::proofs::FitsEquations::passes_no_other_length, crate::proofs::FitsEquations::fits_of_tuple, crate::proofs::FitsEquations::fits_of_record, crate::proofs::FitsEquations::fits_of_variant, crate::proofs::FitsEquations::fits_of_result, crate::proofs::FitsEquations::passes_case, crate::proofs::FitsEquations::passes_no_case))]
+#[tactic(auto, using(syntax_trees::proofs::FitsEquations::passes_no_other_length, syntax_trees::proofs::FitsEquations::fits_of_tuple, syntax_trees::proofs::FitsEquations::fits_of_record, syntax_trees::proofs::FitsEquations::fits_of_variant, syntax_trees::proofs::FitsEquations::fits_of_result, syntax_trees::proofs::FitsEquations::passes_case, syntax_trees::proofs::FitsEquations::passes_no_case))]
 fn parts_fit(values: &[Value], parts: &[Shared<ValType>]) -> bool
     ensures { result ≡ each_passes (map test_of parts.now) values.now }
 {
@@ -45,7 +41,7 @@ fn parts_fit(values: &[Value], parts: &[Shared<ValType>]) -> bool
 
 /// Whether all values are of a type.
 #[cycle(fits)]
-#[tactic(auto, using(crate::proofs::FitsEquations::passes_no_other_length, crate::proofs::FitsEquations::fits_of_tuple, crate::proofs::FitsEquations::fits_of_record, crate::proofs::FitsEquations::fits_of_variant, crate::proofs::FitsEquations::fits_of_result, crate::proofs::FitsEquations::passes_case, crate::proofs::FitsEquations::passes_no_case))]
+#[tactic(auto, using(syntax_trees::proofs::FitsEquations::passes_no_other_length, syntax_trees::proofs::FitsEquations::fits_of_tuple, syntax_trees::proofs::FitsEquations::fits_of_record, syntax_trees::proofs::FitsEquations::fits_of_variant, syntax_trees::proofs::FitsEquations::fits_of_result, syntax_trees::proofs::FitsEquations::passes_case, syntax_trees::proofs::FitsEquations::passes_no_case))]
 fn all_fit(values: &[Value], element: &ValType) -> bool
     ensures { result ≡ all_pass (test_of element.now) values.now }
 {
@@ -59,7 +55,7 @@ fn all_fit(values: &[Value], element: &ValType) -> bool
 
 /// Whether a payload is there exactly where it has a type, and is of that type.
 #[cycle(fits)]
-#[tactic(auto, using(crate::proofs::FitsEquations::passes_no_other_length, crate::proofs::FitsEquations::fits_of_tuple, crate::proofs::FitsEquations::fits_of_record, crate::proofs::FitsEquations::fits_of_variant, crate::proofs::FitsEquations::fits_of_result, crate::proofs::FitsEquations::passes_case, crate::proofs::FitsEquations::passes_no_case))]
+#[tactic(auto, using(syntax_trees::proofs::FitsEquations::passes_no_other_length, syntax_trees::proofs::FitsEquations::fits_of_tuple, syntax_trees::proofs::FitsEquations::fits_of_record, syntax_trees::proofs::FitsEquations::fits_of_variant, syntax_trees::proofs::FitsEquations::fits_of_result, syntax_trees::proofs::FitsEquations::passes_case, syntax_trees::proofs::FitsEquations::passes_no_case))]
 fn payload_fits(payload: &Option<Boxed<Value>>, part: &Option<Shared<ValType>>) -> bool
     ensures { result ≡ payload_passes (payload_test part.now) payload.now }
 {
@@ -75,7 +71,7 @@ fn payload_fits(payload: &Option<Boxed<Value>>, part: &Option<Shared<ValType>>) 
 /// Whether a value is of a type. A handle is of the type of handles to its resource, and every stream or future is of each
 /// type of streams or futures.
 #[cycle(fits)]
-#[tactic(auto, using(crate::proofs::FitsEquations::passes_no_other_length, crate::proofs::FitsEquations::fits_of_tuple, crate::proofs::FitsEquations::fits_of_record, crate::proofs::FitsEquations::fits_of_variant, crate::proofs::FitsEquations::fits_of_result, crate::proofs::FitsEquations::passes_case, crate::proofs::FitsEquations::passes_no_case))]
+#[tactic(auto, using(syntax_trees::proofs::FitsEquations::passes_no_other_length, syntax_trees::proofs::FitsEquations::fits_of_tuple, syntax_trees::proofs::FitsEquations::fits_of_record, syntax_trees::proofs::FitsEquations::fits_of_variant, syntax_trees::proofs::FitsEquations::fits_of_result, syntax_trees::proofs::FitsEquations::passes_case, syntax_trees::proofs::FitsEquations::passes_no_case))]
 pub fn fits(value: &Value, val_type: &ValType) -> bool
     ensures { result ≡ fits value.now val_type.now }
 {

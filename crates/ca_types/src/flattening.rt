@@ -2,15 +2,15 @@
 
 ghost use Rattle.std.specs.Prelude.{◌≡◌, ◌∷◌, ◌++◌, OnOk, IfOk};
 ghost use Rattle.std.specs.List.{flat_map};
-ghost use Rattle.ca_types.specs.declared.core_type.CoreType.TheVariants.{I32};
-ghost use Rattle.ca_types.specs.Flat.{flat, flat_payload, flat_params, flat_func, at_most, out_place};
+ghost use Rattle.syntax_trees.specs.declared.core_type.CoreType.TheVariants.{I32};
+ghost use Rattle.syntax_trees.specs.Flat.{flat, flat_payload, flat_params, flat_func, at_most, out_place};
 
-use crate::core_type::{CoreFunc, CoreType, CoreTypes, FlatKind};
-use crate::joining::{alone, joined_lists};
-use crate::shared::Shared;
-use crate::types::{FuncType, Param, ValType};
-use ca_base::{Memory, Seq};
+use faults::Memory;
+use laid_types::{alone, joined_lists};
 use std::alloc::Global;
+use syntax_trees::{
+    CoreFunc, CoreType, CoreTypes, FlatKind, FuncType, Param, Seq, Shared, ValType,
+};
 
 /// The number of a case, and behind it core types for the payloads.
 fn tagged(alloc: Global, mut payloads: Vec<CoreType>) -> Result<Vec<CoreType>, Memory>
@@ -22,7 +22,7 @@ fn tagged(alloc: Global, mut payloads: Vec<CoreType>) -> Result<Vec<CoreType>, M
 }
 
 /// The core types of a type's values, in order. It fails for want of memory alone.
-#[tactic(auto, using(crate::proofs::FlatEquations::flat_of_tuple, crate::proofs::FlatEquations::flat_of_record, crate::proofs::FlatEquations::flat_of_variant, crate::proofs::FlatEquations::flat_of_result, crate::proofs::Joins::joined_cases_all, crate::proofs::Joins::joined_two))]
+#[tactic(auto, using(syntax_trees::proofs::FlatEquations::flat_of_tuple, syntax_trees::proofs::FlatEquations::flat_of_record, syntax_trees::proofs::FlatEquations::flat_of_variant, syntax_trees::proofs::FlatEquations::flat_of_result, syntax_trees::proofs::Joins::joined_cases_all, syntax_trees::proofs::Joins::joined_two))]
 fn flat(alloc: Global, val_type: &ValType) -> Result<Vec<CoreType>, Memory>
     ensures { IfOk result (λ types. types.items ≡ flat val_type.now) }
 {

@@ -1,6 +1,6 @@
 -- Functions of the host of the types of core functions.
 use Rattle.std.proofs.Common.{◌≡◌, List, [], ◌∷◌, map, refl, ap, ◌∙◌}
-use Rattle.wasm_module.specs.declared.types.FuncType.{FuncType}
+use Rattle.syntax_trees.specs.declared.module_types.FuncType.{FuncType}
 use Rattle.wasm_store.specs.Store.{Function, Store, Host}
 use Rattle.wasm_store.specs.Instantiation.{empty}
 use Rattle.comp_graph.specs.declared.graph.CanonFunc.{CanonFunc}

@@ -1,17 +1,18 @@
 //! The types of built-ins as core functions.
 
 ghost use Rattle.std.specs.Prelude.{◌≡◌, option_to_list, map, IfOk};
-ghost use Rattle.ca_types.specs.Flat.{at_most};
+ghost use Rattle.syntax_trees.specs.Flat.{at_most};
 ghost use Rattle.comp_graph.specs.Needs.{core_val, task_return_type};
 ghost use Rattle.comp_graph.specs.Graph.{passed_value, resource_type, plain_type, context_type, copy_type, end_type, builtin_type};
 
 use crate::canon_types::{flat_result, passed};
 use builtin_kinds::{ContextOp, EndKind, PlainBuiltin, ResourceOp};
-use ca_base::{Memory, Seq};
 use comp_graph::{BuiltinKind, EndOp};
+use faults::Memory;
 use laid_types::LaidType;
 use std::alloc::Global;
-use wasm_module::{FuncType, ValType};
+use syntax_trees::Seq;
+use syntax_trees::module_types::{FuncType, ValType};
 
 /// The type of a core function of these parameters, and of this result, if there is one.
 pub(crate) fn func_type(

@@ -3,20 +3,20 @@
 
 ghost use Rattle.std.specs.Prelude.{◌≡◌, ◌<◌, ◌++◌, true, false, length, map, take, Some, IfOk};
 ghost use Rattle.std.specs.List.{slice_get};
-ghost use Rattle.ca_types.specs.declared.types.FuncType as func_types;
-ghost use Rattle.ca_types.specs.Flat.{at_most, flat_payload, out_place, returned};
+ghost use Rattle.syntax_trees.specs.declared.types.FuncType as func_types;
+ghost use Rattle.syntax_trees.specs.Flat.{at_most, flat_payload, out_place, returned};
 ghost use Rattle.comp_graph.specs.declared.graph.CanonFunc.{CanonFunc};
 ghost use Rattle.comp_graph.specs.Graph.{canon_type};
 ghost use Rattle.comp_graph.specs.Needs.{core_val, lower_type};
 ghost use Rattle.comp_graph.specs.Passed.{ArePassed};
 
 use crate::builtin_types::builtin_type;
-use ca_base::{Memory, Seq};
-use ca_types::CoreType;
 use comp_graph::{CanonFunc, Graph, PassedTypes};
+use faults::Memory;
 use laid_types::LaidType;
 use std::alloc::Global;
-use wasm_module::{FuncType, ValType};
+use syntax_trees::module_types::{FuncType, ValType};
+use syntax_trees::{CoreType, Seq};
 
 /// How many core values are passed as core parameters; more are passed in memory.
 const PARAM_LIMIT: usize = 16;

@@ -6,10 +6,10 @@ ghost use Rattle.wasm_store.specs.Store.{Host};
 ghost use Rattle.canon_hosts.specs.Hosts.{first_store};
 
 use crate::canon_types::canon_func_types;
-use ca_base::Memory;
 use comp_graph::Graph;
+use faults::Memory;
 use std::alloc::Global;
-use wasm_module::FuncType;
+use syntax_trees::module_types::FuncType;
 use wasm_store::Store;
 
 /// The store of a graph before anything is instantiated (Core 2.0, section 4.2.3): it has the core functions that the Canonical ABI makes, each

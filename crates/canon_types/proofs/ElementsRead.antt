@@ -2,12 +2,12 @@
 use Rattle.std.proofs.Common.{◌≡◌, ◌∙◌, ℕ, Bool, List, refl, sym, ap, subst, rules, Option, Some, None}
 use Rattle.std.specs.List.{slice_get}
 use Rattle.std.specs.Option.{option_and_then}
-use Rattle.ca_types.specs.declared.types.ValType.{ValType, out-ValType, roll-ValType}
-use Rattle.ca_types.specs.declared.types.ValType.TheOpen as F
-use Rattle.ca_types.specs.declared.types.ValType.TheViews as types
-use Rattle.ca_types.specs.declared.types.ValType.TheViews.{the_lemmas, rolls-Stream, rolls-Future, roll-out-ValType}
-use Rattle.ca_types.specs.declared.types.Case.{Case}
-use Rattle.ca_types.specs.declared.types.Field.{Field}
+use Rattle.syntax_trees.specs.declared.types.ValType.{ValType, out-ValType, roll-ValType}
+use Rattle.syntax_trees.specs.declared.types.ValType.TheOpen as F
+use Rattle.syntax_trees.specs.declared.types.ValType.TheViews as types
+use Rattle.syntax_trees.specs.declared.types.ValType.TheViews.{the_lemmas, rolls-Stream, rolls-Future, roll-out-ValType}
+use Rattle.syntax_trees.specs.declared.types.Case.{Case}
+use Rattle.syntax_trees.specs.declared.types.Field.{Field}
 use Rattle.builtin_kinds.specs.declared.EndKind.{EndKind}
 use Rattle.builtin_kinds.specs.declared.EndKind.TheVariants as end_kind
 use Rattle.laid_types.specs.Parts.{parts_case, part_at}

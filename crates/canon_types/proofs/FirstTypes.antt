@@ -4,13 +4,13 @@ use Rattle.std.specs.Prelude.{nat_le, nat_lt, if◌then◌else◌, is_some}
 use Rattle.std.proofs.lemmas.List.{length-take, take_all}
 use Rattle.std.proofs.lemmas.Bool.{leb-true, leb-false, lt-leb}
 use Rattle.std.proofs.lemmas.Bool.Decides.{nat_tests}
-use Rattle.ca_types.specs.declared.core_type.CoreType.{CoreType}
-use Rattle.ca_types.specs.declared.core_type.CoreType.TheVariants.{I32}
-use Rattle.ca_types.specs.declared.types.FuncType.{FuncType}
-use Rattle.ca_types.specs.declared.types.ValType.{ValType}
-use Rattle.ca_types.specs.Flat.{flat, at_most, out_place, returned, flat_params, flat_payload, flat_func}
-use Rattle.ca_types.specs.declared.core_type.FlatKind.{FlatKind}
-use Rattle.ca_types.specs.declared.core_type.FlatKind.TheVariants.{SyncLift, AsyncLift, CallbackLift}
+use Rattle.syntax_trees.specs.declared.core_type.CoreType.{CoreType}
+use Rattle.syntax_trees.specs.declared.core_type.CoreType.TheVariants.{I32}
+use Rattle.syntax_trees.specs.declared.types.FuncType.{FuncType}
+use Rattle.syntax_trees.specs.declared.types.ValType.{ValType}
+use Rattle.syntax_trees.specs.Flat.{flat, at_most, out_place, returned, flat_params, flat_payload, flat_func}
+use Rattle.syntax_trees.specs.declared.core_type.FlatKind.{FlatKind}
+use Rattle.syntax_trees.specs.declared.core_type.FlatKind.TheVariants.{SyncLift, AsyncLift, CallbackLift}
 use Rattle.comp_graph.specs.declared.graph.Options.{Options}
 use Rattle.comp_graph.specs.Needs.{core_val, core_func, lift_type, lifted_type, lower_type}
 use Rattle.canon_types.specs.Results.{lift_results}

@@ -1,6 +1,6 @@
 -- What `task.return` comes to, by the number of the type of its result.
 use Rattle.std.proofs.Common.{◌≡◌, ◌∙◌, ℕ, Bool, false, ◌&&◌, List, refl, sym, ap, subst, Option, Some, None}
-use Rattle.ca_types.specs.declared.types.ValType.{ValType}
+use Rattle.syntax_trees.specs.declared.types.ValType.{ValType}
 use Rattle.laid_types.specs.Layers.{tree_of}
 use Rattle.comp_graph.specs.Graph.{builtin_type, numbered_value}
 use Rattle.comp_graph.specs.Needs.{task_return_needs_memory}

@@ -2,7 +2,7 @@
 -- what one comes to as it is written.
 use Rattle.std.specs.Prelude.{◌≡◌, List, IfSome}
 use Rattle.std.specs.Option.{option_map}
-use Rattle.ca_types.specs.declared.types.ValType.{ValType}
+use Rattle.syntax_trees.specs.declared.types.ValType.{ValType}
 use Rattle.comp_graph.specs.Graph.{builtin_type, numbered_value}
 use Rattle.comp_graph.specs.Passed.{MayBeAt}
 use Rattle.link_spec.specs.Builtins.{BuiltinMeaning}

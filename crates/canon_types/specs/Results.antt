@@ -1,9 +1,9 @@
 -- What the core function gives that is lifted (Component Model, CanonicalABI.md, "Flattening"), by how it is lifted: the result; with
 -- `async` nothing; and with a callback too, a code.
 use Rattle.std.specs.Prelude.{if◌then◌else◌, is_some, List, [], ◌∷◌}
-use Rattle.ca_types.specs.declared.core_type.CoreType.{CoreType}
-use Rattle.ca_types.specs.declared.core_type.CoreType.TheVariants.{I32}
-use Rattle.ca_types.specs.Flat.{at_most}
+use Rattle.syntax_trees.specs.declared.core_type.CoreType.{CoreType}
+use Rattle.syntax_trees.specs.declared.core_type.CoreType.TheVariants.{I32}
+use Rattle.syntax_trees.specs.Flat.{at_most}
 use Rattle.comp_graph.specs.declared.graph.Options.{Options}
 
 abbrev pub lift_results : Options → List CoreType → List CoreType

@@ -1,7 +1,7 @@
 //! The types of built-ins as core functions, and of those that the Canonical ABI calls.
 
 ghost use Rattle.std.specs.Prelude.{◌≡◌, map, option_to_list};
-ghost use Rattle.ca_types.specs.Flat.{at_most, flat_payload};
+ghost use Rattle.syntax_trees.specs.Flat.{at_most, flat_payload};
 ghost use Rattle.comp_graph.specs.Needs.{core_val, taking, word, callback_type, destructor_type, task_return_type};
 ghost use Rattle.comp_graph.specs.Graph as graph;
 
@@ -10,7 +10,7 @@ use builtin_kinds::{ContextOp, EndKind, PlainBuiltin, ResourceOp};
 use comp_graph::EndOp;
 use laid_types::LaidType;
 use link_core_types::{CoreFuncType, FewTypes, passed};
-use wasm_module::ValType;
+use syntax_trees::module_types::ValType;
 
 /// The type of a core function without parameters.
 fn of_nothing(returned: Option<ValType>) -> CoreFuncType

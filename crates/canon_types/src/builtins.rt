@@ -2,7 +2,7 @@
 
 ghost use Rattle.std.specs.Prelude.{◌≡◌, true, false, List, None, Some, IfOk, IfSome};
 ghost use Rattle.std.specs.Option.{option_map, option_map_or};
-ghost use Rattle.ca_types.specs.declared.types.ValType.{ValType};
+ghost use Rattle.syntax_trees.specs.declared.types.ValType.{ValType};
 ghost use Rattle.comp_graph.specs.Graph.{builtin_type};
 ghost use Rattle.comp_graph.specs.declared.graph.BuiltinKind.TheVariants as builtin;
 ghost use Rattle.link_spec.specs.Builtins.{of_kind, context_meaning, wait_meaning, resource_meaning};
@@ -14,11 +14,11 @@ use crate::builtin_types::{
     context_type, end_type, plain_type, resource_type, return_type, wait_type,
 };
 use builtin_kinds::{ContextOp, EndKind, PlainBuiltin, ResourceOp, WaitOp};
-use ca_types::{Boxed, Shared, ValType};
 use comp_graph::{BuiltinKind, CoreRef, EndOp, Options, Resource, graph_number};
 use laid_types::LaidType;
 use link_core_types::CoreFuncType;
 use std::alloc::{AllocError, Global};
+use syntax_trees::{Boxed, Shared, ValType};
 
 /// How many words a task has.
 const WORDS: u32 = 2;

@@ -7,8 +7,8 @@ ghost use Rattle.link_spec.specs.Builtins as meanings;
 ghost use Rattle.builtin_kinds.specs.declared.EndKind.TheVariants as end_kind;
 
 use builtin_kinds::{EndKind, EndSide};
-use ca_types::ValType;
 use laid_types::LaidType;
+use syntax_trees::ValType;
 
 /// What passes in the streams of a type, where it is one of streams.
 fn stream_elements<'t>(ends: &LaidType<'t>) -> Option<Option<LaidType<'t>>>

@@ -5,12 +5,12 @@ ghost use Rattle.link_spec.specs.Ends as ends;
 ghost use Rattle.canon_types.specs.EndNumbers as end_numbers;
 ghost use Rattle.canon_types.specs.EndNumbers.{number_once, with_number};
 
-use ca_types::ValType;
 use comp_graph::{BuiltinKind, CanonFunc, graph_number};
 use laid_types::LaidType;
 use link_types::{TypeRef, Types};
 use std::alloc::{AllocError, Global};
 use std::marker::Model;
+use syntax_trees::ValType;
 
 /// Numbers of types of streams and futures, each once, in the order in which they were noted, with a mark at each. Contracts see them
 /// in order.

@@ -1,18 +1,18 @@
 //! The types of the core functions that lifts and lowers ask for and make.
 
 ghost use Rattle.std.specs.Prelude.{◌≡◌, ◌++◌, true, false, map, option_to_list};
-ghost use Rattle.ca_types.specs.declared.types.FuncType.{FuncType};
-ghost use Rattle.ca_types.specs.Flat.{at_most, out_place, returned};
+ghost use Rattle.syntax_trees.specs.declared.types.FuncType.{FuncType};
+ghost use Rattle.syntax_trees.specs.Flat.{at_most, out_place, returned};
 ghost use Rattle.comp_graph.specs.Needs.{core_val, lift_type, lower_type, realloc_type, post_return_type};
 ghost use Rattle.canon_types.specs.Results.{lift_results};
 ghost use Rattle.link_types.specs.Laid.{IsLaid};
 
 use crate::needs::{ASYNC_PARAM_LIMIT, ASYNC_RESULT_LIMIT, PARAM_LIMIT, RESULT_LIMIT};
-use ca_types::CoreType;
 use comp_graph::Options;
 use link_core_types::{CoreFuncType, FewTypes, passed, val_type_of};
 use link_types::LaidFunc;
-use wasm_module::ValType;
+use syntax_trees::CoreType;
+use syntax_trees::module_types::ValType;
 
 /// The type in which a result is passed: of more than one core value it is one place in memory.
 fn passed_result(result_types: &[CoreType]) -> Option<ValType>

@@ -1,7 +1,7 @@
 //! Whether lifts, lowers and built-ins ask for a memory, and for a function that gives places in it.
 
 ghost use Rattle.std.specs.Prelude.{◌≡◌, true};
-ghost use Rattle.ca_types.specs.declared.types.FuncType.{FuncType};
+ghost use Rattle.syntax_trees.specs.declared.types.FuncType.{FuncType};
 ghost use Rattle.comp_graph.specs.Needs as needs;
 ghost use Rattle.laid_types.specs.Layers.{tree_of};
 ghost use Rattle.link_types.specs.Laid.{IsLaid};

@@ -1,15 +1,16 @@
 //! The words of the command line, and the request that they lead to.
 
 ghost use Rattle.std.specs.Prelude.{◌≡◌, true, false, None, Some, IfOk, IfErr, MatchOption, map, string_bytes};
-ghost use Rattle.ca_base.specs.Faults.{IfFault};
+ghost use Rattle.faults.specs.Faults.{IfFault};
 ghost use Rattle.clap.specs.Words.{app_of, found_of, rows_of, rule_of, subcommand_rows_of};
 ghost use Rattle.command_words.specs.Words.{IsOf, asked, bare_app, component_file, dump_rule, file_app, file_rule, is_given, is_taken, number_rule, number_up_to, pipe_app, pipe_by, text_in, program_app, request_of, request_of_rows, run_app, said};
 
-use ca_base::{Bytes, MemoryOr, Seq};
 use clap::builder::ValueParser;
 use clap::error::ErrorKind;
 use clap::{Arg, ArgAction, ArgMatches};
+use faults::MemoryOr;
 use std::alloc::{AllocError, Global};
+use syntax_trees::{Bytes, Seq};
 
 /// What the program is told to do.
 #[derive(Clone, Copy)]

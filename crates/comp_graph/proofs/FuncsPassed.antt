@@ -5,8 +5,8 @@ use Rattle.std.specs.Option.{option_map, option_and_then}
 use Rattle.std.proofs.lemmas.Option.{slice_get_within, slice_get-map, slice_get_read}
 use Rattle.std.proofs.lemmas.List.{length-map}
 use Rattle.std.proofs.lemmas.Slice.Zip.{AllZip-long}
-use Rattle.ca_types.specs.declared.types.ValType.{ValType}
-use Rattle.ca_types.specs.declared.types.FuncType.{FuncType}
+use Rattle.syntax_trees.specs.declared.types.ValType.{ValType}
+use Rattle.syntax_trees.specs.declared.types.FuncType.{FuncType}
 use Rattle.comp_graph.specs.declared.func_types.NumberedFunc.{NumberedFunc}
 use Rattle.comp_graph.specs.declared.func_types.PassedTypes.{PassedTypes}
 use Rattle.comp_graph.specs.declared.graph.Builtin.{Builtin}
@@ -15,7 +15,7 @@ use Rattle.comp_graph.specs.declared.graph.CanonFunc.TheVariants as canon_func
 use Rattle.comp_graph.specs.declared.graph.Lower.{Lower}
 use Rattle.builtin_kinds.specs.declared.EndKind.{EndKind}
 use Rattle.builtin_kinds.specs.declared.EndKind.TheVariants as end_kind
-use Rattle.ca_types.specs.declared.types.ValType.TheViews.{outs-Stream, outs-Future}
+use Rattle.syntax_trees.specs.declared.types.ValType.TheViews.{outs-Stream, outs-Future}
 use Rattle.laid_types.specs.Parts.{part_at, parts_case}
 use Rattle.comp_graph.specs.declared.graph.EndOp.{EndOp}
 use Rattle.comp_graph.specs.declared.graph.BuiltinKind.TheVariants as builtin

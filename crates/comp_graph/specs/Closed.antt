@@ -3,10 +3,10 @@
 -- are equal only where they are the same: functions with the same labels, instances with the same exports in the same order.
 use Rattle.std.specs.Prelude.{◌≡◌, ℕ, Bool, true, false, ◌||◌, nat_lt, List, [], ◌∷◌, ◌++◌, map, cond, Option, Some, None}
 use Rattle.std.specs.Str.{bytes_eq}
-use Rattle.ca_types.specs.Ends.{some_true}
-use Rattle.ca_types.specs.declared.types.ValType.{ValType}
-use Rattle.ca_types.specs.declared.types.Param.{Param}
-use Rattle.ca_types.specs.declared.types.FuncType.{FuncType}
+use Rattle.syntax_trees.specs.Ends.{some_true}
+use Rattle.syntax_trees.specs.declared.types.ValType.{ValType}
+use Rattle.syntax_trees.specs.declared.types.Param.{Param}
+use Rattle.syntax_trees.specs.declared.types.FuncType.{FuncType}
 use Rattle.laid_types.specs.Handles.{top_resource, held_top}
 
 mutual

@@ -4,15 +4,15 @@
 use Rattle.std.specs.Prelude.{◌≡◌, ◌≤◌, ℕ, List, ◌++◌, Option, Some, None}
 use Rattle.std.specs.Option.{option_map}
 use Rattle.std.specs.List.{slice_get}
-use Rattle.wasm_module.specs.declared.types.FuncType as core
-use Rattle.wasm_module.specs.declared.types.Limits.{Limits}
-use Rattle.wasm_module.specs.declared.types.GlobalType.{GlobalType}
-use Rattle.wasm_module.specs.declared.module.ExportDesc.{ExportDesc}
-use Rattle.wasm_module.specs.declared.module.ExportDesc.TheVariants as offered
-use Rattle.wasm_module.specs.declared.module.ImportDesc.{ImportDesc}
-use Rattle.wasm_module.specs.declared.module.ImportDesc.TheVariants as wanted
-use Rattle.wasm_module.specs.declared.module.ModuleTree.{ModuleTree}
-use Rattle.wasm_module.specs.Spaces.{imported_tables, imported_memories, global_space, type_of_func}
+use Rattle.syntax_trees.specs.declared.module_types.FuncType as core
+use Rattle.syntax_trees.specs.declared.module_types.Limits.{Limits}
+use Rattle.syntax_trees.specs.declared.module_types.GlobalType.{GlobalType}
+use Rattle.syntax_trees.specs.declared.module.ExportDesc.{ExportDesc}
+use Rattle.syntax_trees.specs.declared.module.ExportDesc.TheVariants as offered
+use Rattle.syntax_trees.specs.declared.module.ImportDesc.{ImportDesc}
+use Rattle.syntax_trees.specs.declared.module.ImportDesc.TheVariants as wanted
+use Rattle.syntax_trees.specs.declared.module.ModuleTree.{ModuleTree}
+use Rattle.wasm_typing.specs.Spaces.{imported_tables, imported_memories, global_space, type_of_func}
 use Rattle.comp_graph.specs.declared.graph.CoreRef.{CoreRef}
 use Rattle.comp_graph.specs.declared.graph.FuncRef.{FuncRef}
 use Rattle.comp_graph.specs.declared.graph.FuncRef.TheVariants as func_ref

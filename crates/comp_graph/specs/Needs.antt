@@ -1,20 +1,20 @@
 -- What a lift and a lower need of core definitions (Component Model, CanonicalABI.md, "Flattening", `canon lift` and `canon
 -- lower`): the types of core functions, and when a memory is used and a function that gives places in it.
 use Rattle.std.specs.Prelude.{ℕ, Bool, ◌||◌, nat_lt, if◌then◌else◌, List, [], ◌∷◌, length, map, replicate, Option, is_some}
-use Rattle.ca_types.specs.declared.core_type.CoreType.{CoreType}
-use Rattle.ca_types.specs.declared.core_type.CoreType.TheVariants as flat_type
-use Rattle.ca_types.specs.declared.core_type.CoreFunc.{CoreFunc}
-use Rattle.ca_types.specs.declared.core_type.FlatKind.{FlatKind}
-use Rattle.ca_types.specs.declared.core_type.FlatKind.TheVariants.{SyncLift, AsyncLift, CallbackLift, SyncLower, AsyncLower}
-use Rattle.ca_types.specs.declared.types.FuncType.{FuncType}
-use Rattle.ca_types.specs.declared.types.ValType as value
-use Rattle.ca_types.specs.Ends.{some_true}
-use Rattle.ca_types.specs.Flat.{flat_params, flat_payload, flat_func, at_most}
+use Rattle.syntax_trees.specs.declared.core_type.CoreType.{CoreType}
+use Rattle.syntax_trees.specs.declared.core_type.CoreType.TheVariants as flat_type
+use Rattle.syntax_trees.specs.declared.core_type.CoreFunc.{CoreFunc}
+use Rattle.syntax_trees.specs.declared.core_type.FlatKind.{FlatKind}
+use Rattle.syntax_trees.specs.declared.core_type.FlatKind.TheVariants.{SyncLift, AsyncLift, CallbackLift, SyncLower, AsyncLower}
+use Rattle.syntax_trees.specs.declared.types.FuncType.{FuncType}
+use Rattle.syntax_trees.specs.declared.types.ValType as value
+use Rattle.syntax_trees.specs.Ends.{some_true}
+use Rattle.syntax_trees.specs.Flat.{flat_params, flat_payload, flat_func, at_most}
 use Rattle.comp_graph.specs.declared.graph.Options.{Options}
 use Rattle.laid_types.specs.Lists.{has_list, held_list}
-use Rattle.wasm_module.specs.declared.types.ValType.{ValType}
-use Rattle.wasm_module.specs.declared.types.ValType.TheVariants.{I32, I64}
-use Rattle.wasm_module.specs.declared.types.FuncType as core
+use Rattle.syntax_trees.specs.declared.module_types.ValType.{ValType}
+use Rattle.syntax_trees.specs.declared.module_types.ValType.TheVariants.{I32, I64}
+use Rattle.syntax_trees.specs.declared.module_types.FuncType as core
 
 -- the type of core values
 abbrev pub core_val : CoreType → ValType

@@ -3,15 +3,14 @@
 ghost use Rattle.std.specs.Prelude.{◌≡◌, ◌<◌, ℕ, length, map, Some};
 ghost use Rattle.std.specs.List.{slice_get};
 ghost use Rattle.std.specs.Option.{option_and_then};
-ghost use Rattle.ca_types.specs.declared.types.FuncType.{FuncType};
+ghost use Rattle.syntax_trees.specs.declared.types.FuncType.{FuncType};
 ghost use Rattle.laid_types.specs.Parts.{part_at};
 ghost use Rattle.laid_types.specs.SameTypes.{AreDistinct};
 ghost use Rattle.comp_graph.specs.Passed.{IsNumbered, AreNumbered, ArePassed, HaveNumbers};
 
-use ca_base::Seq;
-use ca_types::{FuncType, Shared};
 use laid_types::{LaidType, LaidTypes};
 use std::marker::Model;
+use syntax_trees::{FuncType, Seq, Shared};
 
 /// A function type, with the numbers of the types of what is passed, in a table of types of values.
 #[derive(Drop)]
@@ -45,8 +44,8 @@ pub struct FuncTypes {
 impl Model for FuncTypes {
     ghost use Rattle.std.specs.Prelude.{map};
     ghost use Rattle.std.specs.Coded.{codes};
-    ghost use Rattle.ca_types.specs.contracts.types.FuncType as func_type;
-    ghost use Rattle.ca_types.specs.contracts.types.ValType as val_type;
+    ghost use Rattle.syntax_trees.specs.contracts.types.FuncType as func_type;
+    ghost use Rattle.syntax_trees.specs.contracts.types.ValType as val_type;
     ghost use Rattle.laid_types.specs.SameTypes.{AreDistinct};
     ghost use Rattle.comp_graph.specs.Passed.{AreNumbered};
     ghost use Rattle.comp_graph.specs.Passed as passed;

@@ -2,7 +2,7 @@
 
 ghost use Rattle.std.specs.Prelude.{◌≡◌, ◌≤◌, ◌<◌, true, Some, length};
 ghost use Rattle.std.specs.List.{slice_get};
-ghost use Rattle.ca_types.specs.declared.exports.Export.{Export};
+ghost use Rattle.syntax_trees.specs.declared.exports.Export.{Export};
 ghost use Rattle.comp_graph.specs.declared.graph.Builtin.{Builtin};
 ghost use Rattle.comp_graph.specs.declared.graph.Lower.{Lower};
 ghost use Rattle.comp_graph.specs.declared.graph.CanonFunc.TheVariants as canon_func;
@@ -12,10 +12,9 @@ ghost use Rattle.comp_graph.specs.Passed.{AreCanonTypes, AreExportTypes, ArePass
 
 use crate::func_types::{GraphTypes, PassedTypes, element_of, number_at, passed_at};
 use builtin_kinds::{ContextOp, EndKind, EndSide, PlainBuiltin, ResourceOp, WaitOp};
-use ca_base::Seq;
-use ca_types::{Boxed, Exports, FuncType, Shared, ValType};
 use laid_types::LaidType;
 use std::marker::Model;
+use syntax_trees::{Boxed, Exports, FuncType, Seq, Shared, ValType};
 use wasm_typing::Valid;
 
 /// A definition of a core instance.
@@ -209,7 +208,7 @@ pub struct CoreMake<'a> {
 
 impl<'a> Model for CoreMake<'a> {
     ghost use Rattle.std.specs.Coded.{codes};
-    ghost use Rattle.wasm_module.specs.contracts.module.ModuleTree as tree;
+    ghost use Rattle.syntax_trees.specs.contracts.module.ModuleTree as tree;
     ghost use Rattle.comp_graph.specs.contracts.graph.CoreExtern as core_extern;
     ghost use Rattle.comp_graph.specs.Graph as graph;
 
@@ -276,13 +275,13 @@ pub struct Graph<'a> {
 impl<'a> Model for Graph<'a> {
     ghost use Rattle.std.specs.Prelude.{◌≡◌, ◌≤◌, length};
     ghost use Rattle.std.specs.Coded.{codes};
-    ghost use Rattle.wasm_module.specs.contracts.module.ModuleTree as tree;
-    ghost use Rattle.ca_types.specs.contracts.exports.Export as export;
+    ghost use Rattle.syntax_trees.specs.contracts.module.ModuleTree as tree;
+    ghost use Rattle.syntax_trees.specs.contracts.exports.Export as export;
     ghost use Rattle.comp_graph.specs.contracts.graph.Action as action;
     ghost use Rattle.comp_graph.specs.contracts.graph.CoreExtern as core_extern;
     ghost use Rattle.comp_graph.specs.contracts.graph.CanonFunc as canon_func;
     ghost use Rattle.comp_graph.specs.contracts.graph.Resource as a_resource;
-    ghost use Rattle.ca_types.specs.contracts.types.ValType as val_type;
+    ghost use Rattle.syntax_trees.specs.contracts.types.ValType as val_type;
     ghost use Rattle.comp_graph.specs.contracts.graph.Lift as lift;
     ghost use Rattle.comp_graph.specs.Graph as graph;
     ghost use Rattle.comp_graph.specs.Passed.{AreCanonTypes, AreExportTypes, types_at};

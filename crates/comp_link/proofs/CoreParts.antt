@@ -3,9 +3,9 @@ use Rattle.std.proofs.Common.{◌≡◌, ◌<◌, ◌≤◌, ◌∙◌, ℕ, Boo
 use Rattle.std.specs.Prelude.{Result, Ok, Err}
 use Rattle.std.specs.List.{slice_get, list_all}
 use Rattle.std.proofs.lemmas.Bool.{lt-ltb, le-ltb}
-use Rattle.ca_base.specs.declared.memory.MemoryOr.{MemoryOr}
-use Rattle.ca_types.specs.declared.types.FuncType.{FuncType}
-use Rattle.wasm_module.specs.declared.module.ModuleTree.{ModuleTree}
+use Rattle.faults.specs.declared.memory.MemoryOr.{MemoryOr}
+use Rattle.syntax_trees.specs.declared.types.FuncType.{FuncType}
+use Rattle.syntax_trees.specs.declared.module.ModuleTree.{ModuleTree}
 use Rattle.comp_tree.specs.declared.core_instances.CoreArgument.{CoreArgument}
 use Rattle.comp_tree.specs.declared.core_instances.CoreInstance.TheVariants as made_core
 use Rattle.comp_tree.specs.declared.items.CanonOption.{CanonOption}

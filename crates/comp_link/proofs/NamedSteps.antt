@@ -2,9 +2,9 @@
 use Rattle.std.proofs.Common.{◌≡◌, ◌<◌, ◌+◌, ◌↔◌, IsTrue, ℕ, Bool, true, false, nat_lt, List, length, map, drop, refl, sym, ◌∙◌, Some, None}
 use Rattle.std.specs.Prelude.{Result, Ok, Err}
 use Rattle.std.specs.List.{slice_get, list_all}
-use Rattle.ca_base.specs.Names.{AreDistinct}
-use Rattle.ca_base.specs.declared.memory.MemoryOr.{MemoryOr}
-use Rattle.ca_base.specs.declared.memory.MemoryOr.TheVariants as memory
+use Rattle.syntax_trees.specs.Names.{AreDistinct}
+use Rattle.faults.specs.declared.memory.MemoryOr.{MemoryOr}
+use Rattle.faults.specs.declared.memory.MemoryOr.TheVariants as memory
 use Rattle.comp_tree.specs.declared.instances.NamedDefinition.{NamedDefinition}
 use Rattle.link_spec.specs.declared.fault.LinkWhy.{LinkWhy}
 use Rattle.link_spec.specs.declared.fault.LinkWhy.TheVariants as why

@@ -1,9 +1,9 @@
 -- A definition as it is asked for, by what the table of instances answers.
 use Rattle.std.proofs.Common.{◌≡◌, ℕ, Bool, true, false, List, refl, subst, Option, Some, None}
 use Rattle.std.specs.Prelude.{Result, Ok, IfOk}
-use Rattle.ca_base.specs.declared.memory.MemoryOr.{MemoryOr}
-use Rattle.ca_base.specs.declared.memory.MemoryOr.TheVariants as memory
-use Rattle.ca_base.specs.Faults.{IfFault}
+use Rattle.faults.specs.declared.memory.MemoryOr.{MemoryOr}
+use Rattle.faults.specs.declared.memory.MemoryOr.TheVariants as memory
+use Rattle.faults.specs.Faults.{IfFault}
 use Rattle.comp_graph.specs.Closed.{Extern}
 use Rattle.link_spec.specs.declared.fault.LinkWhy.{LinkWhy}
 use Rattle.link_spec.specs.declared.fault.LinkWhy.TheVariants as why

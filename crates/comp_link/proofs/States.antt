@@ -6,8 +6,8 @@ use Rattle.std.specs.Option.{option_map}
 use Rattle.std.proofs.lemmas.Option.{slice_get_read, slice_get-map}
 use Rattle.std.proofs.lemmas.List.{length-map}
 use Rattle.std.specs.Vec.{with_item}
-use Rattle.ca_types.specs.declared.types.ValType.{ValType}
-use Rattle.wasm_module.specs.declared.module.ModuleTree.{ModuleTree}
+use Rattle.syntax_trees.specs.declared.types.ValType.{ValType}
+use Rattle.syntax_trees.specs.declared.module.ModuleTree.{ModuleTree}
 use Rattle.comp_graph.specs.Passed.{AreCanonTypes}
 use Rattle.canon_types.specs.EndNumbers.{AreEndTypes}
 use Rattle.link_spec.specs.Definitions.{Closure, Exports}

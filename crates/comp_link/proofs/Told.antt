@@ -1,9 +1,9 @@
 -- What is told of one step behind another: of the first its reason, and else what the second comes to.
 use Rattle.std.proofs.Common.{◌≡◌, List, refl}
 use Rattle.std.specs.Prelude.{Result, Ok, Err}
-use Rattle.ca_base.specs.Faults.{IfFault}
-use Rattle.ca_base.specs.declared.memory.MemoryOr.{MemoryOr}
-use Rattle.ca_base.specs.declared.memory.MemoryOr.TheVariants.{Memory, Fault}
+use Rattle.faults.specs.Faults.{IfFault}
+use Rattle.faults.specs.declared.memory.MemoryOr.{MemoryOr}
+use Rattle.faults.specs.declared.memory.MemoryOr.TheVariants.{Memory, Fault}
 use Rattle.link_spec.specs.declared.fault.LinkWhy.{LinkWhy}
 use Rattle.link_spec.specs.Definitions.{Exports}
 use Rattle.link_spec.specs.Spaces.{Linking}

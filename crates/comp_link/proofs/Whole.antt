@@ -1,9 +1,9 @@
 -- What is told of a component whose items were gone through.
 use Rattle.std.proofs.Common.{◌≡◌, ◌≤◌, length, refl, sym, ap, subst, arith}
 use Rattle.std.specs.Prelude.{Result, Ok, Err}
-use Rattle.ca_base.specs.Faults.{IfFault}
-use Rattle.ca_base.specs.declared.memory.MemoryOr.{MemoryOr}
-use Rattle.ca_base.specs.declared.memory.MemoryOr.TheVariants.{Memory, Fault}
+use Rattle.faults.specs.Faults.{IfFault}
+use Rattle.faults.specs.declared.memory.MemoryOr.{MemoryOr}
+use Rattle.faults.specs.declared.memory.MemoryOr.TheVariants.{Memory, Fault}
 use Rattle.comp_graph.specs.Graph.{Graph, instance_limit, core_instance_limit}
 use Rattle.comp_graph.specs.Passed.{AreCanonTypes}
 use Rattle.comp_tree.specs.declared.items.Component.{Component}

@@ -1,8 +1,8 @@
 -- Items that are linked one behind the other, and those of components that begin (Component Model, Explainer.md, "Instance
 -- Definitions"), as they are gone through.
 use Rattle.std.specs.Prelude.{ℕ, zero, suc, Result, Ok, Err}
-use Rattle.ca_base.specs.declared.memory.MemoryOr.{MemoryOr}
-use Rattle.ca_base.specs.declared.memory.MemoryOr.TheVariants.{Memory, Fault}
+use Rattle.faults.specs.declared.memory.MemoryOr.{MemoryOr}
+use Rattle.faults.specs.declared.memory.MemoryOr.TheVariants.{Memory, Fault}
 use Rattle.link_spec.specs.declared.fault.LinkWhy.{LinkWhy}
 use Rattle.link_spec.specs.declared.fault.LinkFault.{LinkFault}
 use Rattle.link_spec.specs.Computed.{Run, run_within}

@@ -3,7 +3,7 @@
 -- of streams and futures. What stands behind the references is told by the lists of exports that the instances so far have.
 use Rattle.std.specs.Prelude.{◌≡◌, ℕ, Bool, true, false, List, map, Option, Some, None}
 use Rattle.std.specs.List.{slice_get, AllZip}
-use Rattle.wasm_module.specs.declared.module.ModuleTree.{ModuleTree}
+use Rattle.syntax_trees.specs.declared.module.ModuleTree.{ModuleTree}
 use Rattle.comp_graph.specs.Passed.{TypeTable, AreCanonTypes}
 use Rattle.canon_types.specs.EndNumbers.{AreEndTypes}
 use Rattle.link_spec.specs.Definitions.{Exports, export_names}

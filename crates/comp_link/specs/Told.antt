@@ -1,8 +1,8 @@
 -- What calls of linking (Component Model, Explainer.md, "Component Definitions") answer beside what is computed: a value that stands
 -- for the computed one, or the computed reason; and nothing is said of want of memory.
 use Rattle.std.specs.Prelude.{◌≡◌, Result, Ok, Err}
-use Rattle.ca_base.specs.declared.memory.MemoryOr.{MemoryOr}
-use Rattle.ca_base.specs.declared.memory.MemoryOr.TheVariants.{Memory, Fault}
+use Rattle.faults.specs.declared.memory.MemoryOr.{MemoryOr}
+use Rattle.faults.specs.declared.memory.MemoryOr.TheVariants.{Memory, Fault}
 
 -- a reason, or want of memory, beside what is computed
 abbrev pub IsReason : {A W : Type 0} → MemoryOr W → Result A W → Type 0

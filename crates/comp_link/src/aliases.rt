@@ -14,11 +14,12 @@ ghost use Rattle.comp_link.specs.Told.{IsTold};
 use crate::core_aliases::link_core_alias;
 use crate::link_fault::{ItemError, missing};
 use crate::linker::Linker;
-use ca_base::{MemoryOr, Name};
 use comp_tree::{Alias, AliasTarget, Sort};
+use faults::MemoryOr;
 use link_instances::DefinitionRef;
 use link_spec::LinkWhy;
 use std::alloc::Global;
+use syntax_trees::Name;
 
 /// Links an alias of an export of an instance.
 fn link_export_alias<'a>(

@@ -3,7 +3,7 @@
 ghost use Rattle.std.specs.Prelude.{◌≡◌, ◌<◌, ◌&&◌, ℕ, false, nat_lt, List, map, Option, Some, IfOk, OnOk, length};
 ghost use Rattle.std.specs.List.{slice_get};
 ghost use Rattle.std.specs.Option.{option_and_then};
-ghost use Rattle.ca_types.specs.declared.types.ValType.{ValType};
+ghost use Rattle.syntax_trees.specs.declared.types.ValType.{ValType};
 ghost use Rattle.comp_tree.specs.declared.builtins.CanonBuiltin.TheVariants as read_builtin;
 ghost use Rattle.comp_graph.specs.CoreItems.{core_memory_of};
 ghost use Rattle.comp_graph.specs.Needs.{task_return_needs_memory};
@@ -31,13 +31,13 @@ use crate::resources::resource_at;
 use crate::scope::Scope;
 use crate::used::can_be_used;
 use builtin_kinds::WaitOp;
-use ca_base::MemoryOr;
 use canon_types::{
     Built, BuiltinMeant, context_builtin, held_type, plain_builtin, return_builtin,
     return_needs_memory, stand_once, wait_builtin,
 };
 use comp_graph::CoreRef;
 use comp_tree::{CanonBuiltin, CanonOption, CoreSort, Sort, ValTypeRef};
+use faults::MemoryOr;
 use laid_types::LaidType;
 use link_core_exports::Given;
 use link_meanings::held_value;

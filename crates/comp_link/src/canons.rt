@@ -1,17 +1,17 @@
 //! The core functions that functions are lowered to.
 
 ghost use Rattle.std.specs.Prelude.{◌≡◌, IfOk, IfSome, Some};
-ghost use Rattle.ca_types.specs.declared.types.FuncType as closed;
+ghost use Rattle.syntax_trees.specs.declared.types.FuncType as closed;
 ghost use Rattle.comp_graph.specs.declared.graph.CanonFunc.TheVariants as canon_func;
 ghost use Rattle.comp_graph.specs.Passed.{HasCanonType};
 ghost use Rattle.link_types.specs.Table.{IsFunc};
 ghost use Rattle.comp_link.specs.State.{type_table};
 
-use ca_types::Boxed;
 use comp_graph::{CanonFunc, Lower, Options};
 use link_instances::LiftedRef;
 use link_types::Types;
 use std::alloc::{AllocError, Global};
+use syntax_trees::Boxed;
 
 /// The core function that a function is lowered to, with these options, in the component instance of this number, where its type is
 /// there. The tree of the type is shared. It fails for want of memory alone.

@@ -10,10 +10,10 @@ ghost use Rattle.comp_link.specs.Told.{IsTold};
 
 use crate::link_fault::ItemError;
 use crate::linker::Linker;
-use ca_base::Name;
 use comp_tree::Sort;
 use link_core_exports::aliased;
 use std::alloc::Global;
+use syntax_trees::Name;
 
 /// Links an alias of an export of a core instance.
 pub fn link_core_alias(

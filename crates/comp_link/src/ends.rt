@@ -2,7 +2,7 @@
 
 ghost use Rattle.std.specs.Prelude.{◌≡◌, ◌<◌, ◌&&◌, nat_lt, is_some, List, Option, IfOk, length};
 ghost use Rattle.std.specs.Option.{option_and_then};
-ghost use Rattle.ca_types.specs.declared.types.ValType.{ValType};
+ghost use Rattle.syntax_trees.specs.declared.types.ValType.{ValType};
 ghost use Rattle.comp_tree.specs.declared.builtins.CanonBuiltin.TheVariants as read_builtin;
 ghost use Rattle.comp_graph.specs.Graph as graph;
 ghost use Rattle.comp_graph.specs.declared.graph.EndOp.TheVariants as end_op;
@@ -24,7 +24,6 @@ use crate::linker::Linker;
 use crate::scope::Scope;
 use crate::used::can_be_used;
 use builtin_kinds::{EndKind, EndSide};
-use ca_types::Boxed;
 use canon_types::{BuiltinMeant, elements_of, end_builtin, lowers_list, no_builtin, stand_once};
 use comp_graph::EndOp;
 use comp_tree::{CanonEndOp, CanonOption};
@@ -32,6 +31,7 @@ use laid_types::LaidType;
 use link_core_exports::Given;
 use link_types::{TypeRef, Types};
 use std::alloc::{AllocError, Global};
+use syntax_trees::Boxed;
 
 /// Whether what options name is there that a built-in of ends has.
 fn are_end_options_there(scope: &Scope<'_>, op: &CanonEndOp) -> bool

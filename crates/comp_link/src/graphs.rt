@@ -9,10 +9,10 @@ ghost use Rattle.comp_link.specs.State as state;
 ghost use Rattle.comp_link.specs.State.{type_table, IsLive};
 
 use crate::linker::{Linker, ROOT};
-use ca_base::Seq;
 use comp_graph::{Graph, GraphTypes, graph_number};
 use link_instances::{CallableFuncs, callables};
 use std::alloc::{AllocError, Global};
+use syntax_trees::Seq;
 
 /// The functions of the graph of what is linked that can be called.
 fn graph_funcs(alloc: Global, linker: &Linker<'_>) -> Result<CallableFuncs, AllocError>

@@ -12,12 +12,12 @@ ghost use Rattle.comp_link.specs.Next.{IsNext};
 use crate::link_fault::ItemError;
 use crate::linker::{INSTANCE_LIMIT, Linker};
 use crate::named::named_exports;
-use ca_base::{MemoryOr, Seq};
-use ca_types::Shared;
 use comp_tree::{Component, Instance, NamedDefinition};
+use faults::MemoryOr;
 use link_instances::{DefinitionRef, InstanceRef};
 use link_spec::LinkWhy;
 use std::alloc::Global;
+use syntax_trees::{Seq, Shared};
 
 /// What an instance comes to.
 #[derive(Drop)]

@@ -1,7 +1,7 @@
 //! Linking of lifts.
 
 ghost use Rattle.std.specs.Prelude.{◌≡◌, ◌<◌, List, OnOk, length};
-ghost use Rattle.ca_types.specs.declared.types.FuncType.{FuncType};
+ghost use Rattle.syntax_trees.specs.declared.types.FuncType.{FuncType};
 ghost use Rattle.link_spec.specs.Canons as canons;
 ghost use Rattle.link_spec.specs.Definitions.{Exports};
 ghost use Rattle.link_spec.specs.Spaces.{Spaces, Linking};
@@ -14,13 +14,13 @@ ghost use Rattle.comp_link.specs.Told.{IsTold};
 
 use crate::link_fault::ItemError;
 use crate::linker::Linker;
-use ca_base::MemoryOr;
 use canon_types::{
     callback_type, lift_needs_memory, lift_needs_realloc, lift_type, post_return_type,
     realloc_type, stand_once,
 };
 use comp_graph::graph_number;
 use comp_tree::{CanonOption, CoreSort};
+use faults::MemoryOr;
 use link_core_exports::{CoreItem, Given};
 use link_instances::{DefinitionRef, LiftedRef};
 use link_spec::LinkWhy;

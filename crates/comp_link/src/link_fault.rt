@@ -1,6 +1,6 @@
 //! Why a linking ends without a graph.
 
-use ca_base::MemoryOr;
+use faults::MemoryOr;
 pub use link_core_exports::missing;
 use link_spec::{LinkFault, LinkWhy};
 

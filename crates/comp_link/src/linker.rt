@@ -3,8 +3,8 @@
 ghost use Rattle.std.specs.Prelude.{◌≡◌, ◌≢◌, ◌<◌, ◌+◌, ◌∷◌, ◌++◌, [], List, ℕ, true, false, Some, Ok, Err, map, length, IfSome, IfOk, OnOk, MatchResult, IsTrue};
 ghost use Rattle.std.specs.List.{slice_get};
 ghost use Rattle.std.specs.Option.{option_and_then, option_copied};
-ghost use Rattle.ca_base.specs.Faults.{IfFault};
-ghost use Rattle.wasm_module.specs.declared.module.ModuleTree.{ModuleTree};
+ghost use Rattle.faults.specs.Faults.{IfFault};
+ghost use Rattle.syntax_trees.specs.declared.module.ModuleTree.{ModuleTree};
 ghost use Rattle.comp_graph.specs.Closed.{Closed, Extern, Externs};
 ghost use Rattle.comp_graph.specs.Graph.{canon_type};
 ghost use Rattle.comp_graph.specs.Passed.{HasCanonType};
@@ -30,8 +30,6 @@ ghost use Rattle.comp_link.specs.State.{world_of, type_table, IsScope, IsKept, I
 use crate::canons::lowered_to;
 use crate::link_fault::ItemError;
 use crate::scope::{Scope, Standing};
-use ca_base::{Name, Seq};
-use ca_types::Shared;
 use canon_types::{Built, EndNumbers, canon_number, lower_type, note, type_number};
 use comp_graph::{
     Action, Builtin, CanonFunc, CoreExtern, FuncRef, Options, Resource, graph_number,
@@ -43,6 +41,7 @@ use link_instances::{DefinitionRef, Fit, InstanceRef, Instances, LiftedRef};
 use link_meanings::moved_extern;
 use link_types::{Change, ExternRef, InstanceTypeRef, Listing, TypeRef, Types};
 use std::alloc::{AllocError, Global};
+use syntax_trees::{Name, Seq, Shared};
 
 /// The number of the root, which begins first.
 pub const ROOT: usize = 0;

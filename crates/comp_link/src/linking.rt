@@ -2,8 +2,8 @@
 
 ghost use Rattle.std.specs.Prelude.{◌≡◌, ◌<◌, ◌≤◌, ◌+◌, ◌∷◌, List, length, Some, Ok, IfOk, IfErr, OnOk};
 ghost use Rattle.std.specs.List.{AllByRecursion};
-ghost use Rattle.ca_base.specs.Faults.{IfFault};
-ghost use Rattle.ca_types.specs.declared.exports.Export.{Export};
+ghost use Rattle.faults.specs.Faults.{IfFault};
+ghost use Rattle.syntax_trees.specs.declared.exports.Export.{Export};
 ghost use Rattle.comp_graph.specs.Graph.{instance_limit, core_instance_limit};
 ghost use Rattle.comp_tree.specs.declared.items.Item.TheOpen.{Item-F};
 ghost use Rattle.link_spec.specs.Definitions.{Exports, AComponent, AModule};
@@ -31,15 +31,16 @@ use crate::link_fault::{ItemError, LinkError};
 use crate::linker::{INSTANCE_LIMIT, Linker, ROOT};
 use crate::lowers::link_lower;
 use crate::types::link_type;
-use ca_base::{MemoryOr, Placed, Seq};
-use ca_types::Shared;
+use ca_base::Placed;
 use comp_graph::Graph;
 use comp_tree::{Canon, Component, Item};
+use faults::MemoryOr;
 use link_core_exports::CoreModule;
 use link_instances::InstanceRef;
 use link_spec::LinkFault;
 use link_spec::laws::graphs_are_sound;
 use std::alloc::Global;
+use syntax_trees::{Seq, Shared};
 use wasm_typing::Valid;
 
 /// Adds a core module.

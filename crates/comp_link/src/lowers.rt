@@ -1,7 +1,7 @@
 //! Linking of lowers.
 
 ghost use Rattle.std.specs.Prelude.{◌≡◌, ◌<◌, List, OnOk, length};
-ghost use Rattle.ca_types.specs.declared.types.FuncType.{FuncType};
+ghost use Rattle.syntax_trees.specs.declared.types.FuncType.{FuncType};
 ghost use Rattle.link_spec.specs.Canons as canons;
 ghost use Rattle.link_spec.specs.Canons.{options_of};
 ghost use Rattle.link_spec.specs.Definitions.{Exports};
@@ -16,10 +16,10 @@ ghost use Rattle.comp_link.specs.Ready.{IsLowering};
 use crate::link_fault::ItemError;
 use crate::linker::Linker;
 use crate::used::can_be_used;
-use ca_base::MemoryOr;
 use canon_types::{lower_needs_memory, lower_needs_realloc, stand_once};
 use comp_graph::Options;
 use comp_tree::CanonOption;
+use faults::MemoryOr;
 use link_core_exports::Given;
 use link_instances::LiftedRef;
 use link_spec::LinkWhy;

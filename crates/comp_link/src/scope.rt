@@ -3,7 +3,7 @@
 ghost use Rattle.std.specs.Prelude.{◌≡◌, ◌∷◌, ◌++◌, [], true, false, OnOk, OnErr, IfOk, Option, List, ℕ};
 ghost use Rattle.std.specs.List.{slice_get, list_all};
 ghost use Rattle.std.specs.Option.{option_map};
-ghost use Rattle.ca_base.specs.Names.{is_among};
+ghost use Rattle.syntax_trees.specs.Names.{is_among};
 ghost use Rattle.link_spec.specs.Definitions.{Closure, Definition, Exports};
 ghost use Rattle.link_spec.specs.Canons.{given_by, is_option_there};
 ghost use Rattle.link_spec.specs.Spaces as spaces;
@@ -16,8 +16,6 @@ ghost use Rattle.link_meanings.specs.Meant.{IsFoundAs};
 ghost use Rattle.link_meanings.specs.Levels.{IsClosure};
 ghost use Rattle.comp_link.specs.State.{IsModule, IsScope, IsKept, AreGiven};
 
-use ca_base::{Name, Seq, adds};
-use ca_types::Shared;
 use canon_types::{are_there, has_async, indices_of};
 use comp_tree::{CanonOption, Component, CoreSort, Sort};
 use link_core_exports::{CoreExports, CoreItem, Given, item_at, item_named};
@@ -27,6 +25,7 @@ use std::alloc::{AllocError, Global};
 use std::collections::BTreeSet;
 use std::marker::Model;
 use std::mem;
+use syntax_trees::{Name, Seq, Shared, adds};
 
 /// A component where it stands: as it is read, and the component instances around it, from the inside out. Contracts see its
 /// items in place of it.
@@ -81,7 +80,7 @@ pub struct NameList<'a> {
 
 impl<'a> Model for NameList<'a> {
     ghost use Rattle.std.specs.Prelude.{◌≡◌, ℕ, List, map};
-    ghost use Rattle.ca_base.specs.Names.{has, is_among};
+    ghost use Rattle.syntax_trees.specs.Names.{has, is_among};
 
     ghost Value = { List (List ℕ) };
 

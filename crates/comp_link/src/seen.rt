@@ -1,7 +1,7 @@
 //! A definition as it is asked for.
 
 ghost use Rattle.std.specs.Prelude.{◌≡◌, ℕ, List, Option, Some, Ok};
-ghost use Rattle.ca_base.specs.Faults.{IfFault};
+ghost use Rattle.faults.specs.Faults.{IfFault};
 ghost use Rattle.comp_graph.specs.Closed.{Extern};
 ghost use Rattle.link_spec.specs.declared.fault.LinkWhy.TheVariants as why;
 ghost use Rattle.link_spec.specs.Definitions.{Definition, Exports};
@@ -17,7 +17,7 @@ ghost use Rattle.comp_link.specs.Ready.{as_wanted, IsSeen};
 
 use crate::link_fault::{ItemError, missing};
 use crate::linker::Linker;
-use ca_base::MemoryOr;
+use faults::MemoryOr;
 use link_instances::{DefinitionRef, Fit, seen_as};
 use link_types::{ExternRef, Types};
 use std::alloc::Global;

@@ -1,19 +1,19 @@
 -- Opcodes that are written are read back, case by case.
 use Rattle.std.proofs.Common.{◌≡◌, refl, Some}
-use Rattle.wasm_module.specs.declared.instr.NumericOp.{NumericOp}
-use Rattle.wasm_module.specs.declared.instr.NumericOp.TheVariants.{Eqz, Relation, Unary, Binary, WrapI64, ExtendI32S, ExtendI32U, I64Extend32S}
-use Rattle.wasm_module.specs.declared.instr.Width.{Width}
-use Rattle.wasm_module.specs.declared.instr.Width.TheVariants.{W32, W64}
-use Rattle.wasm_module.specs.declared.instr.RelationOp.{RelationOp}
-use Rattle.wasm_module.specs.declared.instr.RelationOp.TheVariants.{Eq, Ne, LtS, LtU, GtS, GtU, LeS, LeU, GeS, GeU}
-use Rattle.wasm_module.specs.declared.instr.BinaryOp.{BinaryOp}
-use Rattle.wasm_module.specs.declared.instr.BinaryOp.TheVariants.{Add, Sub, Mul, DivS, DivU, RemS, RemU, And, Or, Xor, Shl, ShrS, ShrU, Rotl, Rotr}
-use Rattle.wasm_module.specs.declared.instr.UnaryOp.{UnaryOp}
-use Rattle.wasm_module.specs.declared.instr.UnaryOp.TheVariants.{Clz, Ctz, Popcnt, Extend8S, Extend16S}
-use Rattle.wasm_module.specs.declared.instr.LoadOp.{LoadOp}
-use Rattle.wasm_module.specs.declared.instr.LoadOp.TheVariants.{I32Load, I64Load, I32Load8S, I32Load8U, I32Load16S, I32Load16U, I64Load8S, I64Load8U, I64Load16S, I64Load16U, I64Load32S, I64Load32U}
-use Rattle.wasm_module.specs.declared.instr.StoreOp.{StoreOp}
-use Rattle.wasm_module.specs.declared.instr.StoreOp.TheVariants.{I32Store, I64Store, I32Store8, I32Store16, I64Store8, I64Store16, I64Store32}
+use Rattle.syntax_trees.specs.declared.instr.NumericOp.{NumericOp}
+use Rattle.syntax_trees.specs.declared.instr.NumericOp.TheVariants.{Eqz, Relation, Unary, Binary, WrapI64, ExtendI32S, ExtendI32U, I64Extend32S}
+use Rattle.syntax_trees.specs.declared.instr.Width.{Width}
+use Rattle.syntax_trees.specs.declared.instr.Width.TheVariants.{W32, W64}
+use Rattle.syntax_trees.specs.declared.instr.RelationOp.{RelationOp}
+use Rattle.syntax_trees.specs.declared.instr.RelationOp.TheVariants.{Eq, Ne, LtS, LtU, GtS, GtU, LeS, LeU, GeS, GeU}
+use Rattle.syntax_trees.specs.declared.instr.BinaryOp.{BinaryOp}
+use Rattle.syntax_trees.specs.declared.instr.BinaryOp.TheVariants.{Add, Sub, Mul, DivS, DivU, RemS, RemU, And, Or, Xor, Shl, ShrS, ShrU, Rotl, Rotr}
+use Rattle.syntax_trees.specs.declared.instr.UnaryOp.{UnaryOp}
+use Rattle.syntax_trees.specs.declared.instr.UnaryOp.TheVariants.{Clz, Ctz, Popcnt, Extend8S, Extend16S}
+use Rattle.syntax_trees.specs.declared.instr.LoadOp.{LoadOp}
+use Rattle.syntax_trees.specs.declared.instr.LoadOp.TheVariants.{I32Load, I64Load, I32Load8S, I32Load8U, I32Load16S, I32Load16U, I64Load8S, I64Load8U, I64Load16S, I64Load16U, I64Load32S, I64Load32U}
+use Rattle.syntax_trees.specs.declared.instr.StoreOp.{StoreOp}
+use Rattle.syntax_trees.specs.declared.instr.StoreOp.TheVariants.{I32Store, I64Store, I32Store8, I32Store16, I64Store8, I64Store16, I64Store32}
 use Rattle.wasm_code_reader.specs.Opcodes.{numeric, load, store}
 use Rattle.comp_make.specs.Opcodes.{numeric_opcode, load_opcode, store_opcode}
 

@@ -1,9 +1,9 @@
 -- The code of functions in bytes (Core 2.0, section 5.5.13).
 use Rattle.std.specs.Prelude.{ℕ, List, [], ◌∷◌, ◌++◌}
 use Rattle.std.specs.List.{flat_map}
-use Rattle.wasm_module.specs.declared.types.Locals.{Locals}
-use Rattle.wasm_module.specs.declared.module.Func.{Func}
-use Rattle.wasm_module.specs.Expr.{Expr, flat}
+use Rattle.syntax_trees.specs.declared.module_types.Locals.{Locals}
+use Rattle.syntax_trees.specs.declared.module.Func.{Func}
+use Rattle.syntax_trees.specs.Expr.{Expr, flat}
 use Rattle.comp_make.specs.Numbers.{unsigned_bytes}
 use Rattle.comp_make.specs.Lists.{sized, vec_bytes}
 use Rattle.comp_make.specs.Types.{val_type_byte}

@@ -1,15 +1,15 @@
 -- Instructions in bytes (Core 2.0, section 5.4).
 use Rattle.std.specs.Prelude.{ℕ, pos, List, [], ◌∷◌, ◌++◌}
 use Rattle.std.specs.List.{flat_map}
-use Rattle.wasm_module.specs.declared.instr.Instr.{Instr}
-use Rattle.wasm_module.specs.declared.instr.Instr.TheVariants.{Unreachable, Nop, Br, BrIf, BrTable, Return, Call, CallIndirect, Drop, Select, SelectTyped, LocalGet, LocalSet, LocalTee, GlobalGet, GlobalSet, Load, Store, MemorySize, MemoryGrow, MemoryCopy, MemoryFill, I32Const, I64Const, Numeric}
-use Rattle.wasm_module.specs.declared.instr.MemArg.{MemArg}
-use Rattle.wasm_module.specs.declared.instr.BlockType.{BlockType}
-use Rattle.wasm_module.specs.declared.instr.BlockType.TheVariants.{Empty, Value, TypeIndex}
-use Rattle.wasm_module.specs.declared.instr.Op.{Op}
-use Rattle.wasm_module.specs.declared.instr.Op.TheVariants.{Plain, OpenBlock, OpenLoop, OpenIf, Else, End}
-use Rattle.wasm_module.specs.declared.instr.ConstInstr.{ConstInstr}
-use Rattle.wasm_module.specs.declared.instr.ConstInstr.TheVariants as const_instr
+use Rattle.syntax_trees.specs.declared.instr.Instr.{Instr}
+use Rattle.syntax_trees.specs.declared.instr.Instr.TheVariants.{Unreachable, Nop, Br, BrIf, BrTable, Return, Call, CallIndirect, Drop, Select, SelectTyped, LocalGet, LocalSet, LocalTee, GlobalGet, GlobalSet, Load, Store, MemorySize, MemoryGrow, MemoryCopy, MemoryFill, I32Const, I64Const, Numeric}
+use Rattle.syntax_trees.specs.declared.instr.MemArg.{MemArg}
+use Rattle.syntax_trees.specs.declared.instr.BlockType.{BlockType}
+use Rattle.syntax_trees.specs.declared.instr.BlockType.TheVariants.{Empty, Value, TypeIndex}
+use Rattle.syntax_trees.specs.declared.instr.Op.{Op}
+use Rattle.syntax_trees.specs.declared.instr.Op.TheVariants.{Plain, OpenBlock, OpenLoop, OpenIf, Else, End}
+use Rattle.syntax_trees.specs.declared.instr.ConstInstr.{ConstInstr}
+use Rattle.syntax_trees.specs.declared.instr.ConstInstr.TheVariants as const_instr
 use Rattle.comp_make.specs.Numbers.{unsigned_bytes, signed_bytes}
 use Rattle.comp_make.specs.Lists.{vec_bytes}
 use Rattle.comp_make.specs.Types.{val_type_byte, val_type_bytes}

@@ -4,9 +4,9 @@ use Rattle.ca_base.specs.Span.{Span}
 use Rattle.ca_base.specs.Grammar.{Grammar, read}
 use Rattle.ca_base.specs.Items.{u32}
 use Rattle.wasm_code_reader.specs.declared.fault.ModuleWhy.{ModuleWhy}
-use Rattle.wasm_module.specs.declared.instr.NumericOp.{NumericOp}
-use Rattle.wasm_module.specs.declared.instr.LoadOp.{LoadOp}
-use Rattle.wasm_module.specs.declared.instr.StoreOp.{StoreOp}
+use Rattle.syntax_trees.specs.declared.instr.NumericOp.{NumericOp}
+use Rattle.syntax_trees.specs.declared.instr.LoadOp.{LoadOp}
+use Rattle.syntax_trees.specs.declared.instr.StoreOp.{StoreOp}
 use Rattle.wasm_code_reader.specs.Reasons.{numbers}
 use Rattle.wasm_code_reader.specs.Opcodes.{numeric, load, store}
 use Rattle.comp_make.specs.Numbers.{unsigned_bytes, signed_bytes}

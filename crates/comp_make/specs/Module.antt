@@ -1,7 +1,7 @@
 -- Modules in bytes (Core 2.0, section 5.5.16): the preamble, and the sections in their order, each left out where it would
 -- be empty. There are no custom sections and no data count, which no instruction of these modules needs.
 use Rattle.std.specs.Prelude.{ℕ, List, [], ◌∷◌, ◌++◌, Option, Some, None}
-use Rattle.wasm_module.specs.declared.module.ModuleTree.{ModuleTree}
+use Rattle.syntax_trees.specs.declared.module.ModuleTree.{ModuleTree}
 use Rattle.comp_make.specs.Numbers.{unsigned_bytes}
 use Rattle.comp_make.specs.Lists.{section_bytes, items_section}
 use Rattle.comp_make.specs.Types.{func_type_bytes, limits_bytes, table_bytes}

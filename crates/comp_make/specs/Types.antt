@@ -1,12 +1,12 @@
 -- Types in bytes (Core 2.0, section 5.3).
 use Rattle.std.specs.Prelude.{ℕ, List, [], ◌∷◌, ◌++◌, Option, Some, None}
-use Rattle.wasm_module.specs.declared.types.ValType.{ValType}
-use Rattle.wasm_module.specs.declared.types.ValType.TheVariants.{I32, I64}
-use Rattle.wasm_module.specs.declared.types.FuncType.{FuncType}
-use Rattle.wasm_module.specs.declared.types.Limits.{Limits}
-use Rattle.wasm_module.specs.declared.types.Mutability.{Mutability}
-use Rattle.wasm_module.specs.declared.types.Mutability.TheVariants.{Constant, Variable}
-use Rattle.wasm_module.specs.declared.types.GlobalType.{GlobalType}
+use Rattle.syntax_trees.specs.declared.module_types.ValType.{ValType}
+use Rattle.syntax_trees.specs.declared.module_types.ValType.TheVariants.{I32, I64}
+use Rattle.syntax_trees.specs.declared.module_types.FuncType.{FuncType}
+use Rattle.syntax_trees.specs.declared.module_types.Limits.{Limits}
+use Rattle.syntax_trees.specs.declared.module_types.Mutability.{Mutability}
+use Rattle.syntax_trees.specs.declared.module_types.Mutability.TheVariants.{Constant, Variable}
+use Rattle.syntax_trees.specs.declared.module_types.GlobalType.{GlobalType}
 use Rattle.comp_make.specs.Numbers.{unsigned_bytes}
 use Rattle.comp_make.specs.Lists.{vec_bytes}
 

@@ -6,9 +6,10 @@ ghost use Rattle.comp_make.specs.Component.{component_bytes};
 
 use crate::lists::{push_section, push_sized};
 use crate::whole::Modules;
-use ca_base::{Bytes, Memory, Seq, Text, push_all};
+use faults::Memory;
 use std::alloc::Global;
-use wasm_module::ModuleTree;
+use syntax_trees::{Bytes, ModuleTree, Seq};
+use value_texts::{Text, push_all};
 
 /// The preamble of a component: its magic number, its version and its layer.
 const PREAMBLE: [u8; 8] = [0x00, 0x61, 0x73, 0x6D, 0x0D, 0x00, 0x01, 0x00];

@@ -4,9 +4,10 @@ use crate::instrs::Ops;
 use crate::lists::push_vec;
 use crate::numbers::push_unsigned;
 use crate::types::val_type_byte;
-use ca_base::{Memory, Text, push_all};
+use faults::Memory;
 use std::alloc::Global;
-use wasm_module::{Func, Locals};
+use syntax_trees::{Func, Locals};
+use value_texts::{Text, push_all};
 
 /// Groups of locals.
 struct LocalGroups;

@@ -9,9 +9,10 @@ use crate::lists::push_vec;
 use crate::numbers::{Indices, push_signed, push_unsigned};
 use crate::opcodes::opcode;
 use crate::types::{ValTypes, val_type_byte};
-use ca_base::{Memory, Text, push_all};
+use faults::Memory;
 use std::alloc::Global;
-use wasm_module::{BlockType, ConstInstr, Instr, MemArg, Op};
+use syntax_trees::{BlockType, ConstInstr, Instr, MemArg, Op};
+use value_texts::{Text, push_all};
 
 /// Appends what a load or a store says of its address.
 fn push_memarg(arg: MemArg, to: &mut Vec<u8>) -> Result<(), Memory>

@@ -8,11 +8,13 @@ use crate::instrs::push_const_expr;
 use crate::lists::{push_sized, push_vec};
 use crate::numbers::{Indices, push_unsigned};
 use crate::types::{Memories, Tables, push_global_type};
-use ca_base::{Memory, Name, Text};
+use faults::Memory;
 use std::alloc::Global as Heap;
-use wasm_module::{
-    DataSegment, ElementSegment, Export, ExportDesc, Func, Global, Import, ImportDesc,
+use syntax_trees::module::Export;
+use syntax_trees::{
+    DataSegment, ElementSegment, ExportDesc, Func, Global, Import, ImportDesc, Name,
 };
+use value_texts::Text;
 
 /// Appends a name behind the number of its bytes.
 fn push_name(name: &Name, to: &mut Vec<u8>) -> Result<(), Memory>

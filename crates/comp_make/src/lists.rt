@@ -5,9 +5,11 @@ ghost use Rattle.std.specs.Prelude.{◌≡◌, ◌++◌, OnOk};
 ghost use Rattle.comp_make.specs.Lists.{sized, vec_bytes, section_bytes, items_section};
 
 use crate::numbers::push_unsigned;
-use ca_base::{Memory, Seq, Text, push_all};
+use faults::Memory;
 use std::alloc::Global;
 use std::marker::PhantomData;
+use syntax_trees::Seq;
+use value_texts::{Text, push_all};
 
 /// Appends bytes behind their number.
 pub(crate) fn push_sized(bytes: &[u8], to: &mut Vec<u8>) -> Result<(), Memory>

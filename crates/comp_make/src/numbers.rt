@@ -3,8 +3,9 @@
 ghost use Rattle.std.specs.Prelude.{◌≡◌, ◌<◌, ◌++◌, ℤ, OnOk};
 ghost use Rattle.comp_make.specs.Numbers.{unsigned_bytes, signed_bytes, signed_in, low_bits};
 
-use ca_base::{Memory, Text};
+use faults::Memory;
 use std::alloc::Global;
+use value_texts::Text;
 
 /// How many bytes a number of 64 bits has at most.
 const MOST_BYTES: u32 = 10;

@@ -3,7 +3,7 @@
 ghost use Rattle.std.specs.Prelude.{◌≡◌, ◌≤◌};
 ghost use Rattle.comp_make.specs.Opcodes.{relation_at, binary_at, unary_opcode, numeric_opcode, load_opcode, store_opcode, opcode};
 
-use wasm_module::{BinaryOp, Instr, LoadOp, NumericOp, RelationOp, StoreOp, UnaryOp, Width};
+use syntax_trees::{BinaryOp, Instr, LoadOp, NumericOp, RelationOp, StoreOp, UnaryOp, Width};
 
 /// How far a comparison stands behind the first one of its width.
 fn relation_at(op: RelationOp) -> u8

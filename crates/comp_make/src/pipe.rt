@@ -11,7 +11,7 @@ use crate::pipe_parts::{
     PRODUCER_ALIAS, PRODUCER_CANONS, PRODUCER_CODE, PRODUCER_EXPORT, PRODUCER_INSTANCE,
     PRODUCER_INSTANCES, PRODUCER_TYPES,
 };
-use ca_base::Memory;
+use faults::Memory;
 use std::alloc::Global;
 
 /// Appends the two numbers, as the producer's memory holds them.

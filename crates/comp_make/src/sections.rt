@@ -8,9 +8,9 @@ use crate::items::{DataSegments, DeclaredFuncs, Elements, Exports, Globals, Impo
 use crate::lists::{SizedOf, push_items, push_section};
 use crate::numbers::Indices;
 use crate::types::{FuncTypes, Memories, Tables};
-use ca_base::Memory;
+use faults::Memory;
 use std::alloc::Global;
-use wasm_module::ModuleTree;
+use syntax_trees::ModuleTree;
 
 /// Appends types, imports, and functions as they are declared.
 #[tactic(auto, unfolding(crate::specs::Module::declarations))]

@@ -5,9 +5,11 @@ ghost use Rattle.comp_make.specs.Types.{val_type_byte, bounds_bytes, limits_byte
 
 use crate::lists::push_vec;
 use crate::numbers::push_unsigned;
-use ca_base::{Memory, Text};
+use faults::Memory;
 use std::alloc::Global;
-use wasm_module::{FuncType, GlobalType, Limits, MemoryType, Mutability, TableType, ValType};
+use syntax_trees::module_types::{FuncType, ValType};
+use syntax_trees::{GlobalType, Limits, MemoryType, Mutability, TableType};
+use value_texts::Text;
 
 /// The byte of a value type.
 pub(crate) fn val_type_byte(val_type: ValType) -> u8

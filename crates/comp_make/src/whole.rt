@@ -4,9 +4,10 @@ ghost use Rattle.std.specs.Prelude.{◌≡◌, ◌++◌, OnOk, IfOk};
 ghost use Rattle.comp_make.specs.Module.{module_bytes};
 
 use crate::sections::{push_contents, push_declarations, push_definitions, push_uses};
-use ca_base::{Bytes, Memory, Seq, Text};
+use faults::Memory;
 use std::alloc::Global;
-use wasm_module::ModuleTree;
+use syntax_trees::{Bytes, ModuleTree, Seq};
+use value_texts::Text;
 
 /// The preamble of a module: its magic number and its version.
 const PREAMBLE: [u8; 8] = [0x00, 0x61, 0x73, 0x6D, 0x01, 0x00, 0x00, 0x00];

@@ -2,7 +2,7 @@
 use Rattle.std.proofs.Common.{◌≡◌, ◌<◌, ◌-◌, ℕ, zero, suc, refl, arith, subst, Result, Err}
 use Rattle.ca_base.specs.Span.{Span}
 use Rattle.ca_base.specs.declared.refusal.Refusal.{Refusal}
-use Rattle.ca_base.specs.declared.memory.MemoryOr.{MemoryOr}
+use Rattle.faults.specs.declared.memory.MemoryOr.{MemoryOr}
 use Rattle.ca_base.specs.Grammar.{read, MayRead}
 use Rattle.comp_tree.specs.declared.types.DefType.{DefType}
 use Rattle.comp_tree.specs.declared.items.Component.{Component}

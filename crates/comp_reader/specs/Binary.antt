@@ -10,8 +10,8 @@ use Rattle.ca_base.specs.Tables.{by_byte, in_rows, giving}
 use Rattle.ca_base.specs.declared.refusal.Refusal.{Refusal}
 use Rattle.ca_base.specs.declared.placed.Placed.{Placed}
 use Rattle.wasm_code_reader.specs.declared.fault.ModuleWhy.TheVariants as module_why
-use Rattle.wasm_module.specs.declared.module.ModuleParts.{ModuleParts}
-use Rattle.wasm_module.specs.declared.module.ModuleTree.{ModuleTree}
+use Rattle.wasm_typing.specs.declared.module_places.ModuleParts.{ModuleParts}
+use Rattle.syntax_trees.specs.declared.module.ModuleTree.{ModuleTree}
 use Rattle.wasm_reader.specs.Binary.{the_module}
 use Rattle.wasm_typing.specs.declared.fault.ValidFault.{ValidFault}
 use Rattle.wasm_typing.specs.Finding.{untyped}

@@ -5,14 +5,15 @@ ghost use Rattle.ca_base.specs.Grammar.{MayRead, in_words};
 ghost use Rattle.part_reader.specs.declared.fault.ComponentWhy.TheVariants as why;
 ghost use Rattle.comp_reader.specs.Binary.{module_file};
 
-use ca_base::{Kind, MemoryOr, ReadError, Refusal, Window};
-use ca_types::Boxed;
+use ca_base::{Kind, ReadError, Refusal, Window};
 use comp_tree::Item;
+use faults::MemoryOr;
 use part_reader::ComponentWhy;
 use std::alloc::Global;
+use syntax_trees::Boxed;
 use wasm_code_reader::ModuleWhy;
-use wasm_module::Module;
 use wasm_reader::read_module;
+use wasm_typing::Module;
 use wasm_valid::validate;
 
 /// The refusal of a module as one of its component.

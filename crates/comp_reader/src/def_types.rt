@@ -7,13 +7,14 @@ ghost use Rattle.comp_reader.specs.Binary.{def_type, instance_type, declarations
 
 use crate::aliases::read_alias;
 use crate::externs::read_extern_desc;
-use ca_base::{Kind, ReadError, Refusal, Seq, Window};
+use ca_base::{Kind, ReadError, Refusal, Window};
 use comp_tree::{DefType, InstanceDecl, Item};
 use part_reader::{
     ComponentWhy, read_def_val_type, read_extern_name, read_func_type, read_resource_type,
     unsupported,
 };
 use std::alloc::Global;
+use syntax_trees::Seq;
 
 /// How many components may be open at a place, and how many instance types.
 pub(crate) const DEPTH_LIMIT: u8 = 16;

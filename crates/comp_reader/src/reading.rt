@@ -3,7 +3,7 @@
 ghost use Rattle.std.specs.Prelude.{◌≡◌, IfOk, IfErr};
 ghost use Rattle.ca_base.specs.Grammar.{MayRead};
 ghost use Rattle.ca_base.specs.declared.refusal.Refusal.{Refusal};
-ghost use Rattle.ca_base.specs.declared.memory.MemoryOr.TheVariants.{Memory, Fault};
+ghost use Rattle.faults.specs.declared.memory.MemoryOr.TheVariants.{Memory, Fault};
 ghost use Rattle.comp_tree.specs.declared.items.Component.{Component};
 ghost use Rattle.part_reader.specs.declared.fault.ComponentWhy.{ComponentWhy};
 ghost use Rattle.comp_reader.specs.Binary.{component, file, file_end, IsComponent, IsRefused};

@@ -14,10 +14,11 @@ use crate::core_modules::CoreModules;
 use crate::def_types::Types;
 use crate::externs::{Exports, Imports};
 use crate::instances::Instances;
-use ca_base::{Placed, PlacedOf, ReadError, Refusal, Seq, Window, join, read_placed, read_vec};
+use ca_base::{Placed, PlacedOf, ReadError, Refusal, Window, join, read_placed, read_vec};
 use comp_tree::{Component, Item};
 use part_reader::{ComponentWhy, unsupported};
 use std::alloc::Global;
+use syntax_trees::Seq;
 
 /// The preamble of a component: its magic number, its version and its layer.
 const PREAMBLE: [u8; 8] = [0x00, 0x61, 0x73, 0x6D, 0x0D, 0x00, 0x01, 0x00];

@@ -3,7 +3,7 @@
 use crate::items::CanonOption;
 use crate::types::ValTypeRef;
 use builtin_kinds::{ContextOp, EndKind, EndSide, PlainBuiltin, ResourceOp, WaitOp};
-use ca_base::Seq;
+use syntax_trees::Seq;
 
 /// What a built-in does with the end of a stream or a future (Component Model, Binary.md, `canon`).
 #[derive(Drop)]

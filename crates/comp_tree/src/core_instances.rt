@@ -1,6 +1,6 @@
 //! Core instances (Component Model, Explainer.md and Binary.md).
 
-use ca_base::{Name, Named, Seq};
+use syntax_trees::{Name, Named, Seq};
 
 /// A sort of what a core instance can export (Component Model, Binary.md, `core:sort`).
 #[derive(Clone, Copy, Debug)]

@@ -1,7 +1,7 @@
 //! Imports and exports (Component Model, Explainer.md and Binary.md).
 
 use crate::instances::Sort;
-use ca_base::Name;
+use syntax_trees::Name;
 
 /// What an import or an export is asked to be (Component Model, Binary.md, `externdesc`).
 #[derive(Clone, Copy, Debug)]

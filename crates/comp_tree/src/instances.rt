@@ -1,7 +1,7 @@
 //! Instances, and aliases of what stands elsewhere (Component Model, Explainer.md and Binary.md).
 
 use crate::core_instances::CoreSort;
-use ca_base::{Name, Named, Seq};
+use syntax_trees::{Name, Named, Seq};
 
 /// A sort of definitions, each of which has an index space of its own (Component Model, Binary.md, `sort`).
 #[derive(Clone, Copy, Debug)]

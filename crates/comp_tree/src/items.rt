@@ -5,8 +5,8 @@ use crate::core_instances::CoreInstance;
 use crate::externs::{Export, Import};
 use crate::instances::{Alias, Instance};
 use crate::types::DefType;
-use ca_base::{Placed, Seq};
-use ca_types::Boxed;
+use ca_base::Placed;
+use syntax_trees::{Boxed, Seq};
 use wasm_typing::Valid;
 
 /// An option of a canonical function (Component Model, Binary.md, `canonopt`).

@@ -2,7 +2,7 @@
 
 use crate::externs::ExternDesc;
 use crate::instances::Alias;
-use ca_base::{Name, Named, Seq};
+use syntax_trees::{Name, Named, Seq};
 
 /// A primitive type of values (Component Model, Binary.md, `primvaltype`). Floats and error contexts are none of these.
 #[derive(Clone, Copy, Debug)]

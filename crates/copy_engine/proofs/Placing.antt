@@ -1,7 +1,7 @@
 -- What is followed with the setting kept beside is followed in the room of the setting, which stays.
 use Rattle.std.proofs.Common.{◌≡◌, ◌≤◌, ℕ, List, length, refl, sym, ap, ◌∙◌, subst, inl, inr, Some, None, Result, Ok, Err}
 use Rattle.std.specs.Prelude.{IfOk}
-use Rattle.ca_base.specs.declared.memory.Memory.{Memory as Want}
+use Rattle.faults.specs.declared.memory.Memory.{Memory as Want}
 use Rattle.handle_table.specs.Slots.{Slots}
 use Rattle.res_handles.specs.declared.entry.EntryView.{EntryView}
 use Rattle.res_handles.specs.declared.refusal.LowerError.{LowerError as HandleError}

@@ -1,11 +1,11 @@
 -- What a copy comes to, by what is lifted.
 use Rattle.std.proofs.Common.{◌≡◌, ℕ, Bool, true, false, List, refl, sym, ◌∙◌, subst, Result, Ok, Err}
 use Rattle.std.specs.Prelude.{IfOk}
-use Rattle.ca_base.specs.declared.memory.Memory.{Memory as Want}
-use Rattle.ca_base.specs.declared.memory.MemoryOr.{MemoryOr}
-use Rattle.ca_base.specs.declared.memory.MemoryOr.TheVariants.{Fault}
-use Rattle.ca_types.specs.declared.types.ValType.{ValType}
-use Rattle.ca_types.specs.declared.value.Value.{Value}
+use Rattle.faults.specs.declared.memory.Memory.{Memory as Want}
+use Rattle.faults.specs.declared.memory.MemoryOr.{MemoryOr}
+use Rattle.faults.specs.declared.memory.MemoryOr.TheVariants.{Fault}
+use Rattle.syntax_trees.specs.declared.types.ValType.{ValType}
+use Rattle.syntax_trees.specs.declared.value.Value.{Value}
 use Rattle.handle_table.specs.Slots.{Slots}
 use Rattle.res_handles.specs.declared.entry.EntryView.{EntryView}
 use Rattle.value_lift.specs.declared.trap.LiftTrap.{LiftTrap}

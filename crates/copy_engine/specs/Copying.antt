@@ -2,9 +2,9 @@
 -- the memory and the table of the instance that writes, and then all are lowered into those of the one that reads.
 use Rattle.std.specs.Prelude.{◌≡◌, ℕ, Bool, true, false, List, [], Option, Some, None, Result, Ok, Err}
 use Rattle.std.specs.List.{list_all}
-use Rattle.ca_types.specs.declared.types.ValType.{ValType}
-use Rattle.ca_types.specs.declared.value.Value.{Value}
-use Rattle.ca_types.specs.Fits.{fits}
+use Rattle.syntax_trees.specs.declared.types.ValType.{ValType}
+use Rattle.syntax_trees.specs.declared.value.Value.{Value}
+use Rattle.syntax_trees.specs.Fits.{fits}
 use Rattle.laid_types.specs.Known.{Numbered}
 use Rattle.handle_table.specs.Slots.{Slots}
 use Rattle.res_handles.specs.declared.entry.EntryView.{EntryView}

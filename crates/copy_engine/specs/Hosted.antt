@@ -1,9 +1,9 @@
 -- Lowering into a memory of a store, beside the table of the instance, which the code that gives out places sees (Component Model,
 -- CanonicalABI.md, "Storing", "Flat Lowering"): what is said of such rooms, and what a lowering comes to in them.
 use Rattle.std.specs.Prelude.{◌≡◌, ◌+◌, ◌≤◌, ℕ, List, length, Option, Result, Ok, Err, IfOk}
-use Rattle.ca_base.specs.declared.memory.Memory.{Memory as Want}
-use Rattle.ca_types.specs.declared.types.ValType.{ValType}
-use Rattle.ca_types.specs.declared.value.Value.{Value}
+use Rattle.faults.specs.declared.memory.Memory.{Memory as Want}
+use Rattle.syntax_trees.specs.declared.types.ValType.{ValType}
+use Rattle.syntax_trees.specs.declared.value.Value.{Value}
 use Rattle.wasm_store.specs.Store.{Store}
 use Rattle.wasm_store.specs.Typed.{StoreTyped, Extends}
 use Rattle.handle_table.specs.Slots.{Slots}

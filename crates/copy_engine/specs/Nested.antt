@@ -2,8 +2,8 @@
 -- 4.2.8 and 4.4): what a realloc comes to by the moves of its own stack, and what a store of bytes leaves.
 use Rattle.std.specs.Prelude.{◌≡◌, ℕ, Bool, ◌&&◌, if◌then◌else◌, List, [], ◌∷◌, Option, Some, None, Result, Ok, Err}
 use Rattle.std.specs.List.{slice_get}
-use Rattle.wasm_module.specs.declared.types.ValType.TheVariants.{I32}
-use Rattle.wasm_module.specs.SameTypes.{same_types}
+use Rattle.syntax_trees.specs.declared.module_types.ValType.TheVariants.{I32}
+use Rattle.syntax_trees.specs.SameTypes.{same_types}
 use Rattle.wasm_memory.specs.Memories.{MemoryState, with_bytes}
 use Rattle.wasm_store.specs.Store.{Function, type_of, Store, found_at}
 use Rattle.wasm_store.specs.Stack.{Stack}

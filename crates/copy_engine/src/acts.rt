@@ -1,6 +1,6 @@
 //! What code that gives out places does beside.
 
-use ca_base::Seq;
+use syntax_trees::Seq;
 use wasm_execution::Words;
 
 /// A call of a canonical function.

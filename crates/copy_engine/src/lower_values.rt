@@ -1,8 +1,8 @@
 //! Values that are lowered over a store, beside the table of the instance.
 
 ghost use Rattle.std.specs.Prelude.{◌≡◌, ◌≤◌, true, length, IfOk, [], ◌∷◌};
-ghost use Rattle.ca_types.specs.Fits.{fits};
-ghost use Rattle.ca_types.specs.Flat.{flat};
+ghost use Rattle.syntax_trees.specs.Fits.{fits};
+ghost use Rattle.syntax_trees.specs.Flat.{flat};
 ghost use Rattle.value_lower.specs.Fitting.{AllFit};
 ghost use Rattle.value_lower.specs.Following.{Comes};
 ghost use Rattle.value_lower.specs.Tables.{IsEntry};
@@ -13,13 +13,14 @@ use crate::acts::Acts;
 use crate::hosted::{HostedRoom, HostedTrap};
 use crate::seen_table::SeenTable;
 use crate::setting::Lowering;
-use ca_base::{Fuel, Memory, Seq};
-use ca_types::Value;
+use ca_base::Fuel;
+use faults::Memory;
 use handle_table::Table;
 use laid_types::NumberedType;
 use res_handles::Entry;
 use std::alloc::Global;
 use std::mem;
+use syntax_trees::{Seq, Value};
 use value_lower::{
     LowerError, LowerWhy, RoomEnd, lower_flat_by, lower_placed_by, store_by, store_list_by,
 };

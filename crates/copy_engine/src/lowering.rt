@@ -1,9 +1,9 @@
 //! Values into a memory of a store.
 
 ghost use Rattle.std.specs.Prelude.{◌≡◌, ◌≤◌, ◌∷◌, [], false, true, length, IfOk};
-ghost use Rattle.ca_types.specs.Ends.{has_end};
-ghost use Rattle.ca_types.specs.Fits.{fits};
-ghost use Rattle.ca_types.specs.Flat.{flat};
+ghost use Rattle.syntax_trees.specs.Ends.{has_end};
+ghost use Rattle.syntax_trees.specs.Fits.{fits};
+ghost use Rattle.syntax_trees.specs.Flat.{flat};
 ghost use Rattle.laid_types.specs.Handles.{has_handle};
 ghost use Rattle.value_lower.specs.Fitting.{AllFit};
 ghost use Rattle.value_lower.specs.Lowering.{stored, all_stored, placed, flat_lowered};
@@ -11,9 +11,9 @@ ghost use Rattle.copy_engine.specs.Rooms.{Same, IfTold, Lowers, state_of};
 
 use crate::nested::NestedTrap;
 use crate::store_room::StoreRoom;
-use ca_types::Value;
 use laid_types::LaidType;
 use std::alloc::Global;
+use syntax_trees::Value;
 use value_lower::{
     LowerError, Words, lower_flat_bare, lower_placed_bare, store_bare, store_list_bare,
 };

@@ -2,7 +2,7 @@
 
 ghost use Rattle.std.specs.Prelude.{◌≡◌, ◌<◌, ◌≤◌, ◌^◌, ◌∷◌, [], true, ℕ, length, Some, None, MatchOption};
 ghost use Rattle.std.specs.List.{slice_get};
-ghost use Rattle.wasm_module.specs.declared.types.ValType.TheVariants.{I32};
+ghost use Rattle.syntax_trees.specs.declared.module_types.ValType.TheVariants.{I32};
 ghost use Rattle.wasm_numbers.specs.Types.{AreWords};
 ghost use Rattle.wasm_store.specs.Store.{Function};
 ghost use Rattle.wasm_store.specs.Step.{start};
@@ -11,10 +11,11 @@ ghost use Rattle.copy_engine.specs.Nested.{is_realloc, realloc_in, bytes_in, Nes
 
 use ca_base::Fuel;
 use std::alloc::Global;
+use syntax_trees::are_same;
+use syntax_trees::module_types::ValType;
 use thiserror::Error;
 use value_lower::RoomEnd;
 use wasm_execution::{Outcome, Words, run, start};
-use wasm_module::{ValType, are_same};
 use wasm_store::{FunctionInstance, Store, Trap};
 
 /// A function of the host that nested code calls.

@@ -3,7 +3,7 @@
 -- graph has it: in its table of types no type stands twice, so ends of the same type have the same number.
 use Rattle.std.specs.Prelude.{ℕ, List, Option}
 use Rattle.std.specs.List.{slice_get}
-use Rattle.ca_types.specs.declared.types.ValType.{ValType}
+use Rattle.syntax_trees.specs.declared.types.ValType.{ValType}
 use Rattle.builtin_kinds.specs.declared.EndKind.{EndKind}
 use Rattle.builtin_kinds.specs.declared.EndSide.{EndSide}
 use Rattle.builtin_kinds.specs.declared.EndSide.TheVariants as end_side

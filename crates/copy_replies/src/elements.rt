@@ -1,18 +1,18 @@
 //! The elements of reads and writes, and where they lie in memory.
 
 ghost use Rattle.std.specs.Prelude.{◌≡◌, ◌+◌, ◌*◌, nat_le};
-ghost use Rattle.ca_types.specs.Layout.{laid};
+ghost use Rattle.laid_types.specs.Layout.{laid};
 ghost use Rattle.value_lift.specs.Lifting.{is_integer};
 ghost use Rattle.world_parts.specs.Held.{Tells};
 ghost use Rattle.world_parts.specs.Slots.{small};
 ghost use Rattle.copy_replies.specs.Reads.{placed_well, is_none_or_integer};
 ghost use Rattle.copy_replies.specs.Moves.{element_at, next_place};
 
-use ca_types::ValType;
 use comp_graph::{CanonFunc, Graph};
 use graph_views::canon_at;
 use laid_types::LaidType;
 use stream_ends::OpenCopy;
+use syntax_trees::ValType;
 use trace_labels::TrapName;
 use world_parts::{Part, Parts, Stop};
 

@@ -8,15 +8,16 @@
 //! stream 1 and `write:1` a write, `drop-read:1` drops the end that reads, and `told-write:1` tells the end that writes what came of its copy.
 
 use builtin_kinds::EndKind;
-use ca_base::{Bytes, Memory};
 use cases::Answers;
 use channels::Channel;
 use entry_gate::Kind;
+use faults::Memory;
 use instances::{EndEntry, Instance, WorldEntry};
 use res_handles::{Handle, Ownership};
 use std::alloc::{AllocError, Global};
 use std::test::Fail;
 use stream_ends::{By, Side};
+use syntax_trees::Bytes;
 use task_table::{Callee, Caller, TaskSlot};
 use tasks::TaskEvent;
 use world_cases::{let_go, nothing};

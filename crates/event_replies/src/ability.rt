@@ -10,9 +10,9 @@ ghost use Rattle.world_parts.specs.Turning.{gate_lets, gate_is_free, loop_is_ove
 ghost use Rattle.event_replies.specs.Seen.{seen};
 
 use crate::news::{index_is_ready, is_pending_at, is_resolved_at, task_is_resolved};
-use ca_base::Memory;
 use comp_graph::Graph;
 use entry_gate::{BadCode, Kind, Next, read_callback};
+use faults::Memory;
 use instances::Instance;
 use std::alloc::Global;
 use std::collections::BTreeSet;

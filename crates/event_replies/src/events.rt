@@ -7,8 +7,8 @@ ghost use Rattle.event_replies.specs.Seen.{seen};
 
 use crate::news::ready;
 use builtin_kinds::EndKind;
-use ca_base::Memory;
 use comp_graph::{Graph, Lift};
+use faults::Memory;
 use graph_views::{lift_of, options_at};
 use instances::{EndEntry, WorldEntry};
 use std::alloc::Global;

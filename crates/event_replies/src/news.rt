@@ -9,9 +9,9 @@ ghost use Rattle.world_parts.specs.Channels.{channel_of};
 ghost use Rattle.world_parts.specs.News.{slot_news, copy_is_async, channel_news, entry_news, entry_in, news_at, members_in, ready, some_ready, index_is_ready, slot_is_resolved, task_is_resolved, channel_is_pending, entry_is_pending, entry_is_resolved};
 ghost use Rattle.event_replies.specs.Seen.{seen};
 
-use ca_base::Memory;
 use channels::Channel;
 use comp_graph::Graph;
+use faults::Memory;
 use graph_views::is_async;
 use instances::{EndEntry, Instance, WorldEntry};
 use std::alloc::Global;

@@ -1,7 +1,7 @@
 -- A built-in stands beside the number of the type by which it is known what it passes, where it passes one.
 use Rattle.std.proofs.Common.{◌≡◌, ℕ, sym, subst, Option, Some, None}
 use Rattle.std.specs.List.{slice_get}
-use Rattle.ca_types.specs.declared.types.ValType.{ValType}
+use Rattle.syntax_trees.specs.declared.types.ValType.{ValType}
 use Rattle.comp_graph.specs.declared.graph.BuiltinKind.{BuiltinKind}
 use Rattle.comp_graph.specs.Graph.{numbered_value}
 use Rattle.comp_graph.specs.Passed.{TypeTable, MayBeAt}

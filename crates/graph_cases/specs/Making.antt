@@ -1,7 +1,7 @@
 -- A graph that is being made (Component Model, Explainer.md, "Canonical Definitions"): the types of what is passed, the core functions that
 -- the Canonical ABI makes, and the functions that can be called, each with the number of its type.
 use Rattle.std.specs.Prelude.{◌≡◌, ℕ, List, length, Option}
-use Rattle.ca_types.specs.declared.exports.Export.{Export}
+use Rattle.syntax_trees.specs.declared.exports.Export.{Export}
 use Rattle.comp_graph.specs.declared.graph.CanonFunc.{CanonFunc}
 use Rattle.comp_graph.specs.declared.graph.Lift.{Lift}
 use Rattle.comp_graph.specs.Passed.{TypeTable, AreCanonTypes, AreExportTypes}

@@ -11,13 +11,13 @@ ghost use Rattle.comp_graph.specs.Passed.{HasCanonType};
 
 use crate::tabling::{EndNumbers, Numbers};
 use builtin_kinds::{ContextOp, EndKind, EndSide, PlainBuiltin, ResourceOp, WaitOp};
-use ca_types::{Boxed, Shared, ValType};
 use comp_graph::{
     Builtin, BuiltinKind, CanonFunc, CoreRef, EndOp, FuncRef, FuncTypes, Lift, Lower, Options,
 };
 use laid_types::LaidType;
 use std::alloc::{AllocError, Global};
 use std::test::Fail;
+use syntax_trees::{Boxed, Shared, ValType};
 
 /// A canonical function, with the number of the type by which it is known what it passes.
 #[derive(Drop)]

@@ -9,13 +9,12 @@ ghost use Rattle.comp_graph.specs.Passed.{HasCanonType};
 
 use crate::canons::{Canon, canon_named, core_func, lift_named};
 use crate::tabling::{Numbers, number_all};
-use ca_base::{Name, Seq};
-use ca_types::Export;
 use comp_graph::{CanonFunc, FuncTypes, Graph, GraphTypes, Lift, Resource};
 use link_types::Types;
 use std::alloc::Global;
 use std::marker::Model;
 use std::test::Fail;
+use syntax_trees::{Export, Name, Seq};
 
 /// The canonical functions but for those of ends.
 const NAMES: &str =
@@ -75,9 +74,9 @@ struct Linking {
 
 impl Model for Linking {
     ghost use Rattle.std.specs.Coded.{codes};
-    ghost use Rattle.ca_types.specs.contracts.types.ValType as val_type;
-    ghost use Rattle.ca_types.specs.contracts.types.FuncType as func_type;
-    ghost use Rattle.ca_types.specs.contracts.exports.Export as export;
+    ghost use Rattle.syntax_trees.specs.contracts.types.ValType as val_type;
+    ghost use Rattle.syntax_trees.specs.contracts.types.FuncType as func_type;
+    ghost use Rattle.syntax_trees.specs.contracts.exports.Export as export;
     ghost use Rattle.comp_graph.specs.contracts.graph.CanonFunc as canon_func;
     ghost use Rattle.comp_graph.specs.contracts.graph.Lift as lift;
     ghost use Rattle.graph_cases.specs.Making as making;

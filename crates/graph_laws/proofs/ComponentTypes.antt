@@ -1,6 +1,6 @@
 -- Each type that stands in a component that is read of bytes is written with few labels, at any depth.
 use Rattle.std.proofs.Common.{◌≡◌, ℕ, true, false, List, sym, subst, rules}
-use Rattle.wasm_module.specs.declared.module.ModuleTree.{ModuleTree}
+use Rattle.syntax_trees.specs.declared.module.ModuleTree.{ModuleTree}
 use Rattle.comp_tree.specs.declared.types.DefType.{DefType}
 use Rattle.comp_tree.specs.declared.items.Item.{Item, out-Item}
 use Rattle.comp_tree.specs.declared.items.Item.TheOpen.{Item-F}

@@ -7,18 +7,18 @@ use Rattle.std.specs.Str.{all_scalars}
 use Rattle.std.proofs.lemmas.Bool.{and_parts, eqb-true, leb-true, ltb-true}
 use Rattle.std.proofs.lemmas.Bool.Decides.{nat_tests}
 use Rattle.std.proofs.lemmas.Str.{IsUtf8-from_is_utf8}
-use Rattle.ca_types.specs.declared.types.ValType.{ValType, out-ValType}
-use Rattle.ca_types.specs.declared.types.Case.{Case}
-use Rattle.ca_types.specs.declared.types.Field.{Field}
-use Rattle.ca_types.specs.declared.types.ValType.TheOpen as F
-use Rattle.ca_types.specs.declared.types.ValType.TheFolds.{map-ValType}
-use Rattle.ca_types.specs.declared.value.Value.{Value, out-Value}
-use Rattle.ca_types.specs.declared.value.Value.TheOpen as V
-use Rattle.ca_types.specs.declared.value.Value.TheViews.{the_lemmas, roll-Value}
-use Rattle.ca_types.specs.declared.value.Value.TheVariants as plain
-use Rattle.ca_types.specs.declared.value.Value.TheFolds.{map-Value, ind-Value, fold-roll-Value}
-use Rattle.ca_types.specs.Fits.{fits, test_of, each_passes, all_pass, payload_passes, case_passes}
-use Rattle.ca_types.proofs.Folds.{held, fold_case, fold_field}
+use Rattle.syntax_trees.specs.declared.types.ValType.{ValType, out-ValType}
+use Rattle.syntax_trees.specs.declared.types.Case.{Case}
+use Rattle.syntax_trees.specs.declared.types.Field.{Field}
+use Rattle.syntax_trees.specs.declared.types.ValType.TheOpen as F
+use Rattle.syntax_trees.specs.declared.types.ValType.TheFolds.{map-ValType}
+use Rattle.syntax_trees.specs.declared.value.Value.{Value, out-Value}
+use Rattle.syntax_trees.specs.declared.value.Value.TheOpen as V
+use Rattle.syntax_trees.specs.declared.value.Value.TheViews.{the_lemmas, roll-Value}
+use Rattle.syntax_trees.specs.declared.value.Value.TheVariants as plain
+use Rattle.syntax_trees.specs.declared.value.Value.TheFolds.{map-Value, ind-Value, fold-roll-Value}
+use Rattle.syntax_trees.specs.Fits.{fits, test_of, each_passes, all_pass, payload_passes, case_passes}
+use Rattle.syntax_trees.proofs.Folds.{held, fold_case, fold_field}
 use Rattle.value_lift.specs.Bytes.{is_scalar}
 use Rattle.value_lift.proofs.Layers.{by_layer}
 use Rattle.value_lower.specs.Lowering.{bits_of}

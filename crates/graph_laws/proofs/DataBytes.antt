@@ -4,8 +4,8 @@ use Rattle.std.specs.Prelude.{unwrap_or}
 use Rattle.std.specs.List.{AllByRecursion}
 use Rattle.ca_base.specs.Grammar.{Grammar, Give, Refuse, Here, Next, Byte, Choose, ◌>>=◌, times}
 use Rattle.ca_base.specs.Items.{NumberReasons, Reasons, fixed, u32, sized, is_byte}
-use Rattle.wasm_module.specs.declared.module.DataSegment.{DataSegment}
-use Rattle.wasm_module.specs.declared.module.ModuleParts.{ModuleParts}
+use Rattle.syntax_trees.specs.declared.module.DataSegment.{DataSegment}
+use Rattle.wasm_typing.specs.declared.module_places.ModuleParts.{ModuleParts}
 use Rattle.wasm_code_reader.specs.declared.fault.ModuleWhy.{ModuleWhy}
 use Rattle.wasm_code_reader.specs.declared.fault.ModuleWhy.TheVariants.{Magic, Count}
 use Rattle.wasm_code_reader.specs.Reasons.{numbers, reasons}

@@ -4,7 +4,7 @@ use Rattle.std.proofs.Common.{◌≡◌, ℕ, List, [], ◌∷◌, sym, subst, r
 use Rattle.std.specs.List.{AllByRecursion}
 use Rattle.ca_base.specs.Items.{placed}
 use Rattle.ca_base.specs.declared.placed.Placed.{Placed}
-use Rattle.wasm_module.specs.declared.module.ModuleTree.{ModuleTree}
+use Rattle.syntax_trees.specs.declared.module.ModuleTree.{ModuleTree}
 use Rattle.comp_tree.specs.declared.core_instances.CoreInstance.{CoreInstance}
 use Rattle.comp_tree.specs.declared.instances.Instance as made_of
 use Rattle.comp_tree.specs.declared.instances.Alias as aliased

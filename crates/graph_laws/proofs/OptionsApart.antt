@@ -2,7 +2,7 @@
 use Rattle.std.proofs.Common.{◌≡◌, ℕ, List, map, Option, Some}
 use Rattle.std.specs.List.{slice_get}
 use Rattle.std.specs.Option.{option_and_then, IfSome}
-use Rattle.ca_types.specs.declared.types.ValType.{ValType}
+use Rattle.syntax_trees.specs.declared.types.ValType.{ValType}
 use Rattle.comp_tree.specs.declared.builtins.CanonEndOp.{CanonEndOp}
 use Rattle.comp_tree.specs.declared.builtins.CanonEndOp.TheVariants as read_op
 use Rattle.comp_tree.specs.declared.builtins.CanonBuiltin.{CanonBuiltin}

@@ -3,8 +3,8 @@ use Rattle.std.proofs.Common.{◌≡◌, ℕ, true, false, List, [], ◌∷◌, 
 use Rattle.std.specs.Prelude.{codes}
 use Rattle.std.specs.List.{slice_get}
 use Rattle.ca_base.specs.declared.placed.Placed.{Placed}
-use Rattle.wasm_module.specs.declared.types.ValType.TheVariants.{I32}
-use Rattle.wasm_module.specs.declared.types.FuncType as core
+use Rattle.syntax_trees.specs.declared.module_types.ValType.TheVariants.{I32}
+use Rattle.syntax_trees.specs.declared.module_types.FuncType as core
 use Rattle.comp_tree.specs.declared.items.Item.{Item}
 use Rattle.comp_graph.specs.declared.graph.FuncRef.TheVariants as func_ref
 use Rattle.comp_graph.specs.declared.graph.Action.TheVariants.{Begin, Make}
@@ -12,8 +12,8 @@ use Rattle.comp_graph.specs.Graph.{CoreMake, no_options}
 use Rattle.comp_graph.specs.Closed as closed
 use Rattle.link_spec.specs.declared.fault.LinkFault.{LinkFault}
 use Rattle.link_spec.specs.Definitions.{Func, Memory, Lifted, Closure, AFunc, Exports, EmptyInstance, WithExport}
-use Rattle.ca_types.specs.declared.types.ValType.TheViews.{outs-U32}
-use Rattle.wasm_module.specs.declared.module.ModuleTree.{ModuleTree}
+use Rattle.syntax_trees.specs.declared.types.ValType.TheViews.{outs-U32}
+use Rattle.syntax_trees.specs.declared.module.ModuleTree.{ModuleTree}
 use Rattle.wasm_typing.specs.Modules.{Typed}
 use Rattle.wasm_typing.specs.Finding.{first_fault}
 use Rattle.wasm_typing.proofs.Deciding.{fault_free}

@@ -4,13 +4,13 @@ use Rattle.std.specs.Prelude.{◌==◌}
 use Rattle.std.specs.List.{slice_get, AllByRecursion, AllZip, list_all}
 use Rattle.std.specs.Option.{option_and_then}
 use Rattle.std.proofs.lemmas.Bool.{and_parts}
-use Rattle.ca_base.specs.Names.{first_named}
-use Rattle.ca_base.proofs.FirstNamed.{found_by_name}
-use Rattle.ca_types.specs.declared.types.Param.{Param}
-use Rattle.ca_types.specs.declared.types.FuncType.{FuncType}
-use Rattle.ca_types.specs.declared.exports.Export.{Export}
-use Rattle.ca_types.specs.declared.value.Value.{Value}
-use Rattle.ca_types.specs.declared.value.Value.TheViews as value
+use Rattle.syntax_trees.specs.Names.{first_named}
+use Rattle.syntax_trees.proofs.FirstNamed.{found_by_name}
+use Rattle.syntax_trees.specs.declared.types.Param.{Param}
+use Rattle.syntax_trees.specs.declared.types.FuncType.{FuncType}
+use Rattle.syntax_trees.specs.declared.exports.Export.{Export}
+use Rattle.syntax_trees.specs.declared.value.Value.{Value}
+use Rattle.syntax_trees.specs.declared.value.Value.TheViews as value
 use Rattle.comp_graph.specs.declared.graph.Lift.{Lift}
 use Rattle.comp_graph.specs.Graph as graph
 use Rattle.comp_graph.specs.Graph.{Graph, Lifted, lifted_as, func_named, names, IsLiftThere}

@@ -4,11 +4,11 @@ use Rattle.std.specs.List.{AllByRecursion}
 use Rattle.ca_base.specs.Span.{Span, window}
 use Rattle.ca_base.specs.Grammar.{Left, Matches}
 use Rattle.ca_base.proofs.Laws.{matches_reads}
-use Rattle.wasm_module.specs.declared.module.ModuleTree.{ModuleTree}
-use Rattle.wasm_module.specs.declared.module.ModuleParts.{ModuleParts}
+use Rattle.syntax_trees.specs.declared.module.ModuleTree.{ModuleTree}
+use Rattle.wasm_typing.specs.declared.module_places.ModuleParts.{ModuleParts}
 use Rattle.wasm_code_reader.specs.declared.fault.ModuleWhy.{ModuleWhy}
 use Rattle.wasm_code_reader.specs.declared.fault.ModuleWhy.TheVariants as module_why
-use Rattle.wasm_module.specs.Places.{Fits}
+use Rattle.wasm_typing.specs.Places.{Fits}
 use Rattle.wasm_reader.specs.Binary.{definitions, uses, contents, the_module}
 use Rattle.wasm_reader.proofs.Fitting.{parts_fit}
 use Rattle.wasm_reader.proofs.Ranges.{memories_in_range}

@@ -1,15 +1,15 @@
 -- A component with a component inside (Component Model, Explainer.md, "Instance Definitions" and "Canonical Definitions"), and the graph
 -- to which it is linked.
 use Rattle.std.specs.Prelude.{pos, codes, ℕ, false, List, [], ◌∷◌, ◌++◌, Some, None}
-use Rattle.ca_types.specs.declared.types.ValType.TheVariants as val_type
-use Rattle.ca_types.specs.declared.types.FuncType as of_graph
-use Rattle.wasm_module.specs.declared.types.ValType.TheVariants.{I32}
-use Rattle.wasm_module.specs.declared.instr.Instr.TheVariants.{Call}
-use Rattle.wasm_module.specs.declared.instr.ConstInstr.TheVariants.{I32Const}
-use Rattle.wasm_module.specs.declared.module.ExportDesc.TheVariants as offered
-use Rattle.wasm_module.specs.declared.module.ImportDesc.TheVariants as wanted
-use Rattle.wasm_module.specs.declared.module.ModuleTree.{ModuleTree}
-use Rattle.wasm_module.specs.Expr.{Plain, End}
+use Rattle.syntax_trees.specs.declared.types.ValType.TheVariants as val_type
+use Rattle.syntax_trees.specs.declared.types.FuncType as of_graph
+use Rattle.syntax_trees.specs.declared.module_types.ValType.TheVariants.{I32}
+use Rattle.syntax_trees.specs.declared.instr.Instr.TheVariants.{Call}
+use Rattle.syntax_trees.specs.declared.instr.ConstInstr.TheVariants.{I32Const}
+use Rattle.syntax_trees.specs.declared.module.ExportDesc.TheVariants as offered
+use Rattle.syntax_trees.specs.declared.module.ImportDesc.TheVariants as wanted
+use Rattle.syntax_trees.specs.declared.module.ModuleTree.{ModuleTree}
+use Rattle.syntax_trees.specs.Expr.{Plain, End}
 use Rattle.comp_tree.specs.declared.core_instances.CoreSort.TheVariants as core_sort
 use Rattle.comp_tree.specs.declared.core_instances.CoreInstance.TheVariants as made_core
 use Rattle.comp_tree.specs.declared.instances.Sort.TheVariants as sorts

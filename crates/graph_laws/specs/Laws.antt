@@ -2,8 +2,8 @@
 -- Definitions"), and what its modules have, where it was read before (Binary.md, "Core Definitions"; Core 2.0, section 5.5).
 use Rattle.std.specs.Prelude.{◌≡◌, ℕ, true, List, Some}
 use Rattle.std.specs.List.{slice_get, AllByRecursion}
-use Rattle.ca_types.specs.declared.exports.Export.{Export}
-use Rattle.wasm_module.specs.declared.module.ModuleTree.{ModuleTree}
+use Rattle.syntax_trees.specs.declared.exports.Export.{Export}
+use Rattle.syntax_trees.specs.declared.module.ModuleTree.{ModuleTree}
 use Rattle.wasm_typing.specs.Modules.{Typed}
 use Rattle.wasm_store.specs.Instantiation.{InRange}
 use Rattle.comp_tree.specs.declared.items.Component.{Component}

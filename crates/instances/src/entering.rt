@@ -6,8 +6,8 @@ ghost use Rattle.entry_gate.specs.Gates.{is_free, may_enter, with_wait, without_
 ghost use Rattle.instances.specs.Instances.{with_gate};
 
 use crate::instance::Instance;
-use ca_base::Memory;
 use entry_gate::{Kind, PressureLimit, PressureZero};
+use faults::Memory;
 
 impl Instance {
     /// Whether a task of this kind may enter: one that waits, or a newcomer.

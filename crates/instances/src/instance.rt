@@ -7,8 +7,8 @@ ghost use Rattle.instances.specs.declared.entry.WorldEntry.TheVariants as entry;
 ghost use Rattle.instances.specs.Instances.{new_instance, entry_of};
 
 use crate::entry::{EndEntry, WorldEntry};
-use ca_base::Memory;
 use entry_gate::Gate;
+use faults::Memory;
 use handle_table::Table;
 use res_handles::Refusal;
 use std::alloc::Global;

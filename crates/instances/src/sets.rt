@@ -7,7 +7,7 @@ ghost use Rattle.instances.specs.Calls.{JoinGives, WaitGives, is_there, has_wait
 
 use crate::instance::Instance;
 use crate::refusal::{DropSetError, SetError};
-use ca_base::Memory;
+use faults::Memory;
 use std::alloc::Global;
 use waitables::{Members, Nums};
 

@@ -1,19 +1,19 @@
 -- Layouts and core types by parts: those of a type are its outer layer over those of its parts.
 use Rattle.std.proofs.Common.{◌≡◌, ◌∙◌, List, [], ◌∷◌, length, map, ap, sym, refl, Option, Some, None}
 use Rattle.std.proofs.lemmas.List.{length-map}
-use Rattle.ca_types.specs.declared.types.ValType.{ValType, out-ValType, roll-ValType}
-use Rattle.ca_types.specs.declared.types.Case.{Case}
-use Rattle.ca_types.specs.declared.types.Field.{Field}
-use Rattle.ca_types.specs.declared.types.ValType.TheOpen as F
-use Rattle.ca_types.specs.declared.types.ValType.TheViews.{roll-out-ValType}
-use Rattle.ca_types.specs.declared.types.ValType.TheFolds.{fold-Case, fold-Field, fold-roll-ValType}
-use Rattle.ca_types.specs.declared.core_type.CoreType.{CoreType}
-use Rattle.ca_types.specs.declared.core_type.CoreType.TheVariants.{I32}
-use Rattle.ca_types.specs.Layout.{Laid, laid, laid_step, laid_case, laid_field, laid_payload, record_laid, tagged, there}
-use Rattle.ca_types.specs.Flat.{flat, flat_step, flat_case, flat_field, flat_payload, held_flat, all_of, joined_all, joined_lists}
-use Rattle.ca_types.proofs.Folds.{held, fold_case, fold_field, fold_result, fold_stream, fold_future}
-use Rattle.ca_types.proofs.Parts.{map_alike}
-use Rattle.ca_types.proofs.Joins.{joined_none}
+use Rattle.syntax_trees.specs.declared.types.ValType.{ValType, out-ValType, roll-ValType}
+use Rattle.syntax_trees.specs.declared.types.Case.{Case}
+use Rattle.syntax_trees.specs.declared.types.Field.{Field}
+use Rattle.syntax_trees.specs.declared.types.ValType.TheOpen as F
+use Rattle.syntax_trees.specs.declared.types.ValType.TheViews.{roll-out-ValType}
+use Rattle.syntax_trees.specs.declared.types.ValType.TheFolds.{fold-Case, fold-Field, fold-roll-ValType}
+use Rattle.syntax_trees.specs.declared.core_type.CoreType.{CoreType}
+use Rattle.syntax_trees.specs.declared.core_type.CoreType.TheVariants.{I32}
+use Rattle.laid_types.specs.Layout.{Laid, laid, laid_step, laid_case, laid_field, laid_payload, record_laid, tagged, there}
+use Rattle.syntax_trees.specs.Flat.{flat, flat_step, flat_case, flat_field, flat_payload, held_flat, all_of, joined_all, joined_lists}
+use Rattle.syntax_trees.proofs.Folds.{held, fold_case, fold_field, fold_result, fold_stream, fold_future}
+use Rattle.syntax_trees.proofs.Parts.{map_alike}
+use Rattle.syntax_trees.proofs.Joins.{joined_none}
 use Rattle.laid_types.specs.Parts.{parts_case, parts_of, layouts}
 use Rattle.laid_types.specs.Gathered.{laid_over, flats, flat_over}
 

@@ -1,6 +1,6 @@
 -- The greatest depth of parts, as far as 33, and the greatest number of a resource that they name.
 use Rattle.std.proofs.Common.{◌≡◌, ◌∙◌, ℕ, ◌≤◌, max, min, List, length, drop, ap, sym, arith, Option}
-use Rattle.ca_types.specs.declared.types.ValType.{ValType}
+use Rattle.syntax_trees.specs.declared.types.ValType.{ValType}
 use Rattle.laid_types.specs.Depth.{greatest}
 use Rattle.laid_types.specs.Layers.{trees_of}
 use Rattle.laid_types.specs.Gathered.{depths, tops}

@@ -5,7 +5,7 @@ use Rattle.std.specs.Map.{update}
 use Rattle.std.specs.Str.{bytes_eq}
 use Rattle.std.proofs.lemmas.List.{length-map, map-append, take_more}
 use Rattle.std.proofs.lemmas.Slice.Eq.{bytes_eq-Decides}
-use Rattle.ca_base.specs.Names.{named_behind, first_named}
+use Rattle.syntax_trees.specs.Names.{named_behind, first_named}
 
 abbrev or_last : Option ℕ → Bool → ℕ → Option ℕ
 or_last (Some k) b at = Some k

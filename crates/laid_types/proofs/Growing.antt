@@ -3,7 +3,7 @@ use Rattle.std.proofs.Common.{◌≡◌, ◌∙◌, ℕ, zero, suc, ◌<◌, Lis
 use Rattle.std.specs.List.{slice_get}
 use Rattle.std.proofs.lemmas.List.{map-append, length-map}
 use Rattle.std.proofs.lemmas.Option.{slice_get_read}
-use Rattle.ca_types.specs.declared.types.ValType.{ValType}
+use Rattle.syntax_trees.specs.declared.types.ValType.{ValType}
 use Rattle.laid_types.specs.Layers.{IsThere, AreThere, tree_of, trees_of}
 use Rattle.laid_types.specs.Known.{Known, types_of, Stands, AllStand}
 

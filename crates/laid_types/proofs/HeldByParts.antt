@@ -1,15 +1,15 @@
 -- What values hold by parts: what those of a type hold is told by its outer layer and by what its parts hold.
 use Rattle.std.proofs.Common.{◌≡◌, ◌∙◌, Bool, true, false, ◌||◌, map, ap, sym, refl, Option, Some, None}
 use Rattle.std.proofs.lemmas.List.{map-id}
-use Rattle.ca_types.specs.declared.types.ValType.{ValType, out-ValType, roll-ValType}
-use Rattle.ca_types.specs.declared.types.Case.{Case}
-use Rattle.ca_types.specs.declared.types.Field.{Field}
-use Rattle.ca_types.specs.declared.types.ValType.TheOpen as F
-use Rattle.ca_types.specs.declared.types.ValType.TheViews.{roll-out-ValType}
-use Rattle.ca_types.specs.declared.types.ValType.TheFolds.{fold-Case, fold-Field, fold-roll-ValType}
-use Rattle.ca_types.specs.Ends.{has_end, end_step, end_case, end_field, held_end, part_true, some_true}
-use Rattle.ca_types.proofs.Folds.{held, fold_case, fold_field, fold_result, fold_stream, fold_future}
-use Rattle.ca_types.proofs.Parts.{map_alike}
+use Rattle.syntax_trees.specs.declared.types.ValType.{ValType, out-ValType, roll-ValType}
+use Rattle.syntax_trees.specs.declared.types.Case.{Case}
+use Rattle.syntax_trees.specs.declared.types.Field.{Field}
+use Rattle.syntax_trees.specs.declared.types.ValType.TheOpen as F
+use Rattle.syntax_trees.specs.declared.types.ValType.TheViews.{roll-out-ValType}
+use Rattle.syntax_trees.specs.declared.types.ValType.TheFolds.{fold-Case, fold-Field, fold-roll-ValType}
+use Rattle.syntax_trees.specs.Ends.{has_end, end_step, end_case, end_field, held_end, part_true, some_true}
+use Rattle.syntax_trees.proofs.Folds.{held, fold_case, fold_field, fold_result, fold_stream, fold_future}
+use Rattle.syntax_trees.proofs.Parts.{map_alike}
 use Rattle.laid_types.specs.Parts.{parts_case, parts_of}
 use Rattle.laid_types.specs.Handles.{has_handle, handle_step, held_handle, has_borrow, borrow_step, held_borrow}
 use Rattle.laid_types.specs.Lists.{has_list, list_step, held_list}

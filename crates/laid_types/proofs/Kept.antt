@@ -1,9 +1,9 @@
 -- The first core types of several parts are told by the first of each.
 use Rattle.std.proofs.Common.{◌≡◌, ◌∙◌, ℕ, zero, suc, ◌≤◌, List, [], ◌∷◌, ◌++◌, take, ap, sym, refl, arith, append_assoc, append-nil}
 use Rattle.std.proofs.lemmas.List.{take-take}
-use Rattle.ca_types.specs.declared.core_type.CoreType.{CoreType}
-use Rattle.ca_types.specs.Flat.{joined, joined_lists}
-use Rattle.ca_types.proofs.Joins.{joined_assoc}
+use Rattle.syntax_trees.specs.declared.core_type.CoreType.{CoreType}
+use Rattle.syntax_trees.specs.Flat.{joined, joined_lists}
+use Rattle.syntax_trees.proofs.Joins.{joined_assoc}
 
 abbrev Types : Type 0
 Types = List CoreType

@@ -12,3 +12,4 @@ pub mod Steps
 pub mod Told
 pub mod SameTypes
 pub mod Numbers
+pub mod Equations

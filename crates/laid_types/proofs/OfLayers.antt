@@ -2,10 +2,10 @@
 use Rattle.std.proofs.Common.{◌≡◌, ◌∙◌, ℕ, zero, suc, ◌<◌, List, [], ◌∷◌, length, map, ap, sym, refl, arith, Option, Some, None}
 use Rattle.std.specs.List.{slice_get}
 use Rattle.std.specs.Option.{option_map}
-use Rattle.ca_types.specs.declared.types.ValType.{ValType}
-use Rattle.ca_types.specs.declared.types.ValType.TheViews.{outs-Bool, outs-S8, outs-U8, outs-S16, outs-U16, outs-S32, outs-U32, outs-S64, outs-U64, outs-Char, outs-String, outs-Record, outs-Variant, outs-List, outs-Tuple, outs-Flags, outs-Enum, outs-Option, outs-Result, outs-Own, outs-Borrow, outs-Stream, outs-Future}
-use Rattle.ca_types.specs.declared.types.Field.{Field}
-use Rattle.ca_types.specs.declared.types.Case.{Case}
+use Rattle.syntax_trees.specs.declared.types.ValType.{ValType}
+use Rattle.syntax_trees.specs.declared.types.ValType.TheViews.{outs-Bool, outs-S8, outs-U8, outs-S16, outs-U16, outs-S32, outs-U32, outs-S64, outs-U64, outs-Char, outs-String, outs-Record, outs-Variant, outs-List, outs-Tuple, outs-Flags, outs-Enum, outs-Option, outs-Result, outs-Own, outs-Borrow, outs-Stream, outs-Future}
+use Rattle.syntax_trees.specs.declared.types.Field.{Field}
+use Rattle.syntax_trees.specs.declared.types.Case.{Case}
 use Rattle.laid_types.specs.Parts.{parts_case, parts_of, labels_case, labels_of}
 use Rattle.laid_types.specs.declared.layer.ValTypeLayer.{ValTypeLayer}
 use Rattle.laid_types.specs.declared.layer.ValTypeLayer.TheVariants as layer

@@ -1,9 +1,9 @@
 -- Room for payloads, and what stands before it.
 use Rattle.std.proofs.Common.{◌≡◌, ◌∙◌, ℕ, ◌≤◌, max, List, [], ◌∷◌, map, Some, ap, sym, refl, arith}
-use Rattle.ca_types.specs.Layout.{Laid, aligned, tag_size, there, top_align}
-use Rattle.ca_types.specs.Layout as layout
-use Rattle.ca_types.specs.Limited.{limited, nothing, joined, tagged}
-use Rattle.ca_types.proofs.Layouts.{tagged_behind, tagged_behind_all}
+use Rattle.laid_types.specs.Layout.{Laid, aligned, tag_size, there, top_align}
+use Rattle.laid_types.specs.Layout as layout
+use Rattle.layouts.specs.Limited.{limited, nothing, joined, tagged}
+use Rattle.layouts.proofs.Layouts.{tagged_behind, tagged_behind_all}
 use Rattle.laid_types.specs.Gathered.{room_for}
 
 there_all : (payloads : List Laid) → there (map Some payloads) ≡ payloads

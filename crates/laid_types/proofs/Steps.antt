@@ -2,10 +2,10 @@
 use Rattle.std.proofs.Common.{◌≡◌, ◌∙◌, ℕ, zero, suc, ◌<◌, ◌≤◌, ◌+◌, List, [], ◌∷◌, ◌++◌, take, length, map, drop, get_or, ap, sym, arith, Option, Some, None}
 use Rattle.std.specs.List.{slice_get}
 use Rattle.std.proofs.lemmas.List.{drop_more, drop_all}
-use Rattle.ca_types.specs.declared.types.ValType.{ValType}
-use Rattle.ca_types.specs.declared.core_type.CoreType.{CoreType}
-use Rattle.ca_types.specs.Flat.{flat, all_of, joined_all, joined_lists}
-use Rattle.ca_types.proofs.Joins.{joined_none}
+use Rattle.syntax_trees.specs.declared.types.ValType.{ValType}
+use Rattle.syntax_trees.specs.declared.core_type.CoreType.{CoreType}
+use Rattle.syntax_trees.specs.Flat.{flat, all_of, joined_all, joined_lists}
+use Rattle.syntax_trees.proofs.Joins.{joined_none}
 use Rattle.laid_types.specs.Layers.{IsThere, AreThere, tree_of, trees_of}
 use Rattle.laid_types.specs.Gathered.{flats}
 use Rattle.laid_types.proofs.Kept.{row_more, row_kept, payload_more}

@@ -1,8 +1,8 @@
 -- What was gathered over the numbers of a type's parts is what it is of the type.
 use Rattle.std.proofs.Common.{◌≡◌, ◌∙◌, ℕ, List, Option, ap}
-use Rattle.ca_types.specs.declared.types.ValType.{ValType}
-use Rattle.ca_types.specs.Layout.{Laid, aligned, tag_size, top_align}
-use Rattle.ca_types.specs.Limited.{nothing}
+use Rattle.syntax_trees.specs.declared.types.ValType.{ValType}
+use Rattle.laid_types.specs.Layout.{Laid, aligned, tag_size, top_align}
+use Rattle.layouts.specs.Limited.{nothing}
 use Rattle.laid_types.specs.Parts.{parts_of}
 use Rattle.laid_types.specs.Layers.{trees_of}
 use Rattle.laid_types.specs.Gathered.{room_for}

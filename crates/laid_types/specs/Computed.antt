@@ -2,13 +2,13 @@
 -- memory, the first of their core types, what they hold, its depth as far as 33, the greatest number of a resource that it names, and
 -- where its labels stand.
 use Rattle.std.specs.Prelude.{◌≡◌, ℕ, Bool, List, take, min, Option}
-use Rattle.ca_base.specs.Names.{first_named}
-use Rattle.ca_types.specs.declared.types.ValType.{ValType}
-use Rattle.ca_types.specs.declared.core_type.CoreType.{CoreType}
-use Rattle.ca_types.specs.Layout.{Laid, laid}
-use Rattle.ca_types.specs.Limited.{InReach, limited}
-use Rattle.ca_types.specs.Flat.{flat}
-use Rattle.ca_types.specs.Ends.{has_end}
+use Rattle.syntax_trees.specs.Names.{first_named}
+use Rattle.syntax_trees.specs.declared.types.ValType.{ValType}
+use Rattle.syntax_trees.specs.declared.core_type.CoreType.{CoreType}
+use Rattle.laid_types.specs.Layout.{Laid, laid}
+use Rattle.layouts.specs.Limited.{InReach, limited}
+use Rattle.syntax_trees.specs.Flat.{flat}
+use Rattle.syntax_trees.specs.Ends.{has_end}
 use Rattle.laid_types.specs.Parts.{labels_of, payload_place}
 use Rattle.laid_types.specs.Handles.{has_handle, has_borrow, top_resource}
 use Rattle.laid_types.specs.Lists.{has_list}

@@ -1,8 +1,8 @@
 -- The depth of types (Component Model, Explainer.md, "Type Definitions"): how many types stand in one another, the type itself counted.
 -- A type without parts has depth 1.
 use Rattle.std.specs.Prelude.{ℕ, suc, max, List, [], ◌∷◌, Option, Some, None}
-use Rattle.ca_types.specs.declared.types.ValType.{ValType, fold-ValType}
-use Rattle.ca_types.specs.declared.types.ValType.TheOpen.{ValType-F, Field-F, Case-F}
+use Rattle.syntax_trees.specs.declared.types.ValType.{ValType, fold-ValType}
+use Rattle.syntax_trees.specs.declared.types.ValType.TheOpen.{ValType-F, Field-F, Case-F}
 
 -- the greatest of several, 0 where there are none
 abbrev pub greatest : List ℕ → ℕ

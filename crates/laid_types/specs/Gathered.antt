@@ -1,14 +1,14 @@
 -- What is computed of a type from what is computed of its parts (Component Model, CanonicalABI.md, "Alignment", "Element Size" and
 -- "Flattening"): layouts, core types, what values hold, depths, and the resources that types name.
 use Rattle.std.specs.Prelude.{ℕ, suc, Bool, true, false, List, [], ◌∷◌, map, length, Option}
-use Rattle.ca_types.specs.declared.types.ValType.{ValType}
-use Rattle.ca_types.specs.declared.types.ValType.TheOpen.{ValType-F}
-use Rattle.ca_types.specs.declared.core_type.CoreType.{CoreType}
-use Rattle.ca_types.specs.declared.core_type.CoreType.TheVariants.{I32, I64}
-use Rattle.ca_types.specs.Layout.{Laid, scalar, bits_size, record_laid, tagged}
-use Rattle.ca_types.specs.Limited.{limited, joined}
-use Rattle.ca_types.specs.Flat.{flat_payload, all_of, joined_all}
-use Rattle.ca_types.specs.Ends.{held_end, some_true}
+use Rattle.syntax_trees.specs.declared.types.ValType.{ValType}
+use Rattle.syntax_trees.specs.declared.types.ValType.TheOpen.{ValType-F}
+use Rattle.syntax_trees.specs.declared.core_type.CoreType.{CoreType}
+use Rattle.syntax_trees.specs.declared.core_type.CoreType.TheVariants.{I32, I64}
+use Rattle.laid_types.specs.Layout.{Laid, scalar, bits_size, record_laid, tagged}
+use Rattle.layouts.specs.Limited.{limited, joined}
+use Rattle.syntax_trees.specs.Flat.{flat_payload, all_of, joined_all}
+use Rattle.syntax_trees.specs.Ends.{held_end, some_true}
 use Rattle.laid_types.specs.Handles.{held_handle, held_borrow, held_top}
 use Rattle.laid_types.specs.Lists.{held_list}
 use Rattle.laid_types.specs.Depth.{held_depth, greatest}

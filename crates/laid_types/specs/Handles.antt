@@ -2,9 +2,9 @@
 -- Explainer.md, "Type Definitions"). A stream or a future holds no handle: its elements are no part of its end. It names the resources
 -- that its elements name.
 use Rattle.std.specs.Prelude.{ℕ, max, Bool, true, false, ◌||◌, Option, Some, None}
-use Rattle.ca_types.specs.declared.types.ValType.{ValType, fold-ValType}
-use Rattle.ca_types.specs.declared.types.ValType.TheOpen.{ValType-F}
-use Rattle.ca_types.specs.Ends.{some_true, part_true, end_case, end_field}
+use Rattle.syntax_trees.specs.declared.types.ValType.{ValType, fold-ValType}
+use Rattle.syntax_trees.specs.declared.types.ValType.TheOpen.{ValType-F}
+use Rattle.syntax_trees.specs.Ends.{some_true, part_true, end_case, end_field}
 use Rattle.laid_types.specs.Depth.{greatest, part_depth, depth_case, depth_field}
 
 -- A type, where it is known of its parts whether they hold a handle.

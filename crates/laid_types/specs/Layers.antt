@@ -3,11 +3,11 @@
 use Rattle.std.specs.Prelude.{ℕ, ◌<◌, List, [], ◌∷◌, map, length, unwrap_or, Option, Some, None}
 use Rattle.std.specs.List.{slice_get}
 use Rattle.std.specs.Option.{option_map}
-use Rattle.ca_types.specs.declared.types.ValType.{ValType}
-use Rattle.ca_types.specs.declared.types.ValType.TheVariants as leaves
-use Rattle.ca_types.specs.declared.types.ValType.TheViews as types
-use Rattle.ca_types.specs.declared.types.Field.{Field}
-use Rattle.ca_types.specs.declared.types.Case.{Case}
+use Rattle.syntax_trees.specs.declared.types.ValType.{ValType}
+use Rattle.syntax_trees.specs.declared.types.ValType.TheVariants as leaves
+use Rattle.syntax_trees.specs.declared.types.ValType.TheViews as types
+use Rattle.syntax_trees.specs.declared.types.Field.{Field}
+use Rattle.syntax_trees.specs.declared.types.Case.{Case}
 use Rattle.laid_types.specs.declared.layer.ValTypeLayer.{ValTypeLayer}
 use Rattle.laid_types.specs.declared.layer.ValTypeLayer.TheVariants as layer
 use Rattle.laid_types.specs.declared.layer.LabelledPart.{LabelledPart}

@@ -8,3 +8,4 @@ pub mod Known
 pub mod SameTypes
 pub mod Computed
 pub mod Placing
+pub mod Layout

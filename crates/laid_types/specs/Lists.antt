@@ -1,9 +1,9 @@
 -- Which types hold a string or a list (Component Model, Explainer.md, "Type Definitions"). A stream or a future holds none: its elements
 -- are no part of its end.
 use Rattle.std.specs.Prelude.{Bool, true, false, ◌||◌, Option, Some, None}
-use Rattle.ca_types.specs.declared.types.ValType.{ValType, fold-ValType}
-use Rattle.ca_types.specs.declared.types.ValType.TheOpen.{ValType-F}
-use Rattle.ca_types.specs.Ends.{some_true, part_true, end_case, end_field}
+use Rattle.syntax_trees.specs.declared.types.ValType.{ValType, fold-ValType}
+use Rattle.syntax_trees.specs.declared.types.ValType.TheOpen.{ValType-F}
+use Rattle.syntax_trees.specs.Ends.{some_true, part_true, end_case, end_field}
 
 -- A type, where it is known of its parts whether they hold a string or a list.
 abbrev pub list_step : ValType-F Bool Bool Bool → Bool

@@ -2,8 +2,8 @@
 -- and the width of a number of so many bytes.
 use Rattle.std.specs.Prelude.{ℕ, ◌+◌, nat_le, if◌then◌else◌, List, [], ◌∷◌, Option, Some, None}
 use Rattle.std.specs.Int.{Width, w8, w16, w32}
-use Rattle.ca_types.specs.declared.types.ValType.{ValType}
-use Rattle.ca_types.specs.Layout.{laid, aligned}
+use Rattle.syntax_trees.specs.declared.types.ValType.{ValType}
+use Rattle.laid_types.specs.Layout.{laid, aligned}
 
 -- where parts end that are laid one after the other, the first at or behind a place
 abbrev pub end_behind : ℕ → List (Option ValType) → ℕ

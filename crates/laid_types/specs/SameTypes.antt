@@ -3,10 +3,10 @@
 use Rattle.std.specs.Prelude.{◌≡◌, ◌↔◌, ℕ, Bool, true, false, ◌&&◌, ◌==◌, List, [], ◌∷◌, map, IsTrue, Option, Some, None}
 use Rattle.std.specs.List.{slice_get}
 use Rattle.std.specs.Str.{bytes_eq}
-use Rattle.ca_types.specs.declared.types.ValType.{ValType, out-ValType, fold-ValType}
-use Rattle.ca_types.specs.declared.types.ValType.TheOpen.{ValType-F, Field-F, Case-F}
-use Rattle.ca_types.specs.declared.types.Case.{Case}
-use Rattle.ca_types.specs.declared.types.Field.{Field}
+use Rattle.syntax_trees.specs.declared.types.ValType.{ValType, out-ValType, fold-ValType}
+use Rattle.syntax_trees.specs.declared.types.ValType.TheOpen.{ValType-F, Field-F, Case-F}
+use Rattle.syntax_trees.specs.declared.types.Case.{Case}
+use Rattle.syntax_trees.specs.declared.types.Field.{Field}
 
 -- as many items as tests, each of which passes its own
 abbrev pub all_pass : {A : Type 0} → List (A → Bool) → List A → Bool

@@ -3,21 +3,22 @@
 ghost use Rattle.std.specs.Prelude.{◌≡◌, take, min, length, IfOk};
 ghost use Rattle.std.specs.List.{slice_get};
 ghost use Rattle.std.specs.Option.{option_and_then};
-ghost use Rattle.ca_base.specs.Names.{first_named};
-ghost use Rattle.ca_types.specs.Layout.{laid};
-ghost use Rattle.ca_types.specs.Limited.{as_laid, InReach, limited};
-ghost use Rattle.ca_types.specs.Flat.{flat};
-ghost use Rattle.ca_types.specs.Ends.{has_end};
+ghost use Rattle.syntax_trees.specs.Names.{first_named};
+ghost use Rattle.laid_types.specs.Layout.{laid};
+ghost use Rattle.layouts.specs.Limited.{as_laid, InReach, limited};
+ghost use Rattle.syntax_trees.specs.Flat.{flat};
+ghost use Rattle.syntax_trees.specs.Ends.{has_end};
 ghost use Rattle.laid_types.specs.Parts.{labels_of, payload_place};
 ghost use Rattle.laid_types.specs.Handles.{has_handle, has_borrow, top_resource};
 ghost use Rattle.laid_types.specs.Lists.{has_list};
 ghost use Rattle.laid_types.specs.Depth.{depth};
 
 use crate::holding::Holding;
-use ca_types::{CoreType, Laying, Shared, ValType};
+use layouts::Laying;
 use std::alloc::AllocError;
 use std::collections::BTreeMap;
 use std::marker::Model;
+use syntax_trees::{CoreType, Shared, ValType};
 
 /// A type, what is computed of it, and the numbers of its parts. Contracts see the type and the numbers.
 #[derive(Drop)]
@@ -38,9 +39,9 @@ pub(crate) struct Entry {
 impl Model for Entry {
     ghost use Rattle.std.specs.Coded.{codes};
     ghost use Rattle.std.specs.BTreeMap.{get_by_text};
-    ghost use Rattle.ca_types.specs.contracts.types.ValType as val_type_row;
+    ghost use Rattle.syntax_trees.specs.contracts.types.ValType as val_type_row;
     ghost use Rattle.laid_types.specs.Known.{Known};
-    ghost use Rattle.ca_types.specs.Limited.{as_laid};
+    ghost use Rattle.layouts.specs.Limited.{as_laid};
     ghost use Rattle.laid_types.specs.Computed.{IsComputed};
 
     ghost Value = { Known };

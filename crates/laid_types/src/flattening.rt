@@ -1,10 +1,11 @@
 //! Core types of several parts, of which the first are kept (Component Model, CanonicalABI.md, "Flattening").
 
 ghost use Rattle.std.specs.Prelude.{◌≡◌, ◌∷◌, ◌++◌, take, IfOk, OnOk};
-ghost use Rattle.ca_types.specs.declared.core_type.CoreType.TheVariants.{I32};
+ghost use Rattle.syntax_trees.specs.declared.core_type.CoreType.TheVariants.{I32};
 
-use ca_types::{CoreType, alone};
+use crate::joining::alone;
 use std::alloc::{AllocError, Global};
+use syntax_trees::CoreType;
 
 /// How many core types are kept of a type: one more than a function may have parameters, so that "too many" can be told.
 const MOST_KEPT: usize = 17;

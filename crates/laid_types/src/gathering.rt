@@ -1,12 +1,12 @@
 //! What is computed of a type from its parts.
 
 ghost use Rattle.std.specs.Prelude.{◌≡◌, ◌∷◌, take, min, IfOk};
-ghost use Rattle.ca_types.specs.declared.core_type.CoreType.TheVariants.{I32};
-ghost use Rattle.ca_types.specs.declared.types.ValType.{out-ValType};
-ghost use Rattle.ca_types.specs.Layout.{record_laid, tagged};
-ghost use Rattle.ca_types.specs.Limited.{as_laid, InReach, limited, nothing};
-ghost use Rattle.ca_types.specs.Flat.{all_of, joined_all};
-ghost use Rattle.ca_types.specs.Ends.{some_true};
+ghost use Rattle.syntax_trees.specs.declared.core_type.CoreType.TheVariants.{I32};
+ghost use Rattle.syntax_trees.specs.declared.types.ValType.{out-ValType};
+ghost use Rattle.laid_types.specs.Layout.{record_laid, tagged};
+ghost use Rattle.layouts.specs.Limited.{as_laid, InReach, limited, nothing};
+ghost use Rattle.syntax_trees.specs.Flat.{all_of, joined_all};
+ghost use Rattle.syntax_trees.specs.Ends.{some_true};
 ghost use Rattle.laid_types.specs.Parts.{case_count, layouts};
 ghost use Rattle.laid_types.specs.Layers.{AreThere, trees_of};
 ghost use Rattle.laid_types.specs.Depth.{greatest};
@@ -14,9 +14,11 @@ ghost use Rattle.laid_types.specs.Gathered.{room_for, laid_over, flats, flat_ove
 
 use crate::flattening::{push_types, tagged};
 use crate::holding::Holding;
+use crate::joining::{alone, joined_lists};
 use crate::types::LaidTypes;
-use ca_types::{CoreType, Laying, ValType, alone, bits_size, joined_lists};
+use layouts::{Laying, bits_size};
 use std::alloc::{AllocError, Global};
+use syntax_trees::{CoreType, ValType};
 
 /// How many cases a type has to tell apart.
 pub(crate) fn case_count(val_type: &ValType) -> usize
@@ -32,7 +34,7 @@ pub(crate) fn case_count(val_type: &ValType) -> usize
 }
 
 /// Parts one after the other, with padding at the end.
-#[tactic(auto, using(ca_types::proofs::Layouts::closed_behind_all))]
+#[tactic(auto, using(layouts::proofs::Layouts::closed_behind_all))]
 fn row_laying(types: &LaidTypes, parts: &[Option<usize>]) -> Laying
     requires { AreThere types.now parts.now }
     ensures value { as_laid result ≡ limited (record_laid (layouts (trees_of types.now parts.now))) }

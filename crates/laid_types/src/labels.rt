@@ -2,7 +2,7 @@
 
 ghost use Rattle.std.specs.Prelude.{◌≡◌, ℕ, List, IfOk, map};
 ghost use Rattle.std.specs.BTreeMap.{get_by_text};
-ghost use Rattle.ca_base.specs.Names.{first_named};
+ghost use Rattle.syntax_trees.specs.Names.{first_named};
 
 use std::alloc::{AllocError, Global};
 use std::collections::BTreeMap;

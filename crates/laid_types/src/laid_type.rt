@@ -2,10 +2,10 @@
 
 ghost use Rattle.std.specs.Prelude.{◌≡◌, ◌≤◌, ◌^◌, length, min, take, Some, IfOk};
 ghost use Rattle.std.specs.List.{slice_get};
-ghost use Rattle.ca_base.specs.Names.{first_named};
-ghost use Rattle.ca_types.specs.Layout.{laid, tag_size};
-ghost use Rattle.ca_types.specs.Flat.{flat};
-ghost use Rattle.ca_types.specs.Ends.{has_end};
+ghost use Rattle.syntax_trees.specs.Names.{first_named};
+ghost use Rattle.laid_types.specs.Layout.{laid, tag_size};
+ghost use Rattle.syntax_trees.specs.Flat.{flat};
+ghost use Rattle.syntax_trees.specs.Ends.{has_end};
 ghost use Rattle.laid_types.specs.Parts.{parts_of, part_at, case_count, labels_of, payload_place};
 ghost use Rattle.laid_types.specs.Handles.{has_handle, has_borrow, top_resource};
 ghost use Rattle.laid_types.specs.Lists.{has_list};
@@ -16,9 +16,10 @@ use crate::entry::Entry;
 use crate::gathering::case_count;
 use crate::numbered_type::NumberedType;
 use crate::types::LaidTypes;
-use ca_types::{CoreType, Shared, ValType, tag_size};
+use layouts::tag_size;
 use std::alloc::AllocError;
 use std::marker::Model;
+use syntax_trees::{CoreType, Shared, ValType};
 
 /// A type of a table, with what is computed of it. Contracts see the type.
 #[derive(Drop)]
@@ -29,8 +30,8 @@ pub struct LaidType<'a> {
 }
 
 impl<'a> Model for LaidType<'a> {
-    ghost use Rattle.ca_types.specs.declared.types.ValType.{ValType};
-    ghost use Rattle.ca_types.specs.contracts.types.ValType as val_type;
+    ghost use Rattle.syntax_trees.specs.declared.types.ValType.{ValType};
+    ghost use Rattle.syntax_trees.specs.contracts.types.ValType as val_type;
     ghost use Rattle.laid_types.specs.Known.{HasNumber};
 
     ghost Value = { ValType };

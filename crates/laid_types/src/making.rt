@@ -2,7 +2,7 @@
 
 ghost use Rattle.std.specs.Prelude.{◌≡◌, ℕ, List, IfOk};
 ghost use Rattle.std.specs.BTreeMap.{get_by_text};
-ghost use Rattle.ca_base.specs.Names.{first_named};
+ghost use Rattle.syntax_trees.specs.Names.{first_named};
 ghost use Rattle.laid_types.specs.Parts.{labels_of, parts_of};
 ghost use Rattle.laid_types.specs.Layers.{AreThere, trees_of, type_of, part_numbers};
 ghost use Rattle.laid_types.specs.Known.{Stands};
@@ -15,9 +15,9 @@ use crate::labels::first_places;
 use crate::layer::ValTypeLayer;
 use crate::trees::type_of;
 use crate::types::LaidTypes;
-use ca_types::{Shared, ValType};
 use std::alloc::{AllocError, Global};
 use std::collections::BTreeMap;
+use syntax_trees::{Shared, ValType};
 
 /// The entry of a type with these parts, whose labels stand at these places.
 fn entry_with(

@@ -22,7 +22,7 @@ pub struct NumberedType<'a> {
 
 impl<'a> Model for NumberedType<'a> {
     ghost use Rattle.std.specs.Coded.{codes};
-    ghost use Rattle.ca_types.specs.contracts.types.ValType as val_type_row;
+    ghost use Rattle.syntax_trees.specs.contracts.types.ValType as val_type_row;
     ghost use Rattle.laid_types.specs.Known.{Numbered, HasNumber};
 
     ghost Value = { Numbered };

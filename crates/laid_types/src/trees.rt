@@ -6,9 +6,8 @@ ghost use Rattle.laid_types.specs.Layers.{AreThere, IsThere, tree_at, field_of, 
 
 use crate::layer::{LabelledCase, LabelledPart, ValTypeLayer};
 use crate::types::LaidTypes;
-use ca_base::{Name, Seq};
-use ca_types::{Case, Field, Shared, ValType};
 use std::alloc::{AllocError, Global};
+use syntax_trees::{Case, Field, Name, Seq, Shared, ValType};
 
 /// Names of labels.
 fn names(alloc: Global, labels: &[&str]) -> Result<Seq<Name>, AllocError>

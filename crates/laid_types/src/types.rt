@@ -10,9 +10,9 @@ use crate::laid_type::LaidType;
 use crate::layer::ValTypeLayer;
 use crate::making::entry_of;
 use crate::numbered_type::NumberedType;
-use ca_types::{Shared, ValType};
 use std::alloc::{AllocError, Global};
 use std::marker::Model;
+use syntax_trees::{Shared, ValType};
 
 /// Types of values, each over earlier ones, with what is computed of each. Contracts see the types, in order of adding; a type's
 /// number is its place.
@@ -24,8 +24,8 @@ pub struct LaidTypes {
 impl Model for LaidTypes {
     ghost use Rattle.std.specs.Prelude.{List};
     ghost use Rattle.std.specs.Coded.{coded_list};
-    ghost use Rattle.ca_types.specs.declared.types.ValType.{ValType};
-    ghost use Rattle.ca_types.specs.contracts.types.ValType as val_type;
+    ghost use Rattle.syntax_trees.specs.declared.types.ValType.{ValType};
+    ghost use Rattle.syntax_trees.specs.contracts.types.ValType as val_type;
     ghost use Rattle.laid_types.specs.Known.{AllStand, types_of};
 
     ghost Value = { List ValType };

@@ -11,12 +11,12 @@ ghost use Rattle.table_texts.specs.Things.{thing_view};
 use crate::kinds::Lifts;
 use crate::lifting::{is_for, value_or_error, values_or_error};
 use crate::loading::core_values;
-use ca_base::Seq;
 use cases::bytes_of;
 use handle_table::Table;
 use laid_types::{LaidTypes, NumberedType};
 use std::alloc::Global;
 use std::test::Fail;
+use syntax_trees::Seq;
 use table_texts::{Thing, number, put_all, table_of, types_told, write_moved, write_slots};
 use value_lift::{LiftOf, Moved, lift_flat, load, load_list};
 

@@ -1,10 +1,11 @@
 //! What is computed of types in a table, as text.
 
-use ca_types::{CoreType, aligned};
 use laid_types::LaidType;
+use layouts::aligned;
 use std::alloc::{AllocError, Global};
 use std::fmt::Write;
 use std::test::Fail;
+use syntax_trees::CoreType;
 use type_texts::type_told;
 
 /// Writes how values lie in memory.

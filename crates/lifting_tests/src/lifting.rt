@@ -1,16 +1,16 @@
 //! What is lifted, as text.
 
 ghost use Rattle.std.specs.Prelude.{◌≡◌, ◌||◌, ◌≤◌, length, false, true};
-ghost use Rattle.ca_types.specs.Ends.{has_end};
-ghost use Rattle.ca_types.specs.Flat.{flat};
+ghost use Rattle.syntax_trees.specs.Ends.{has_end};
+ghost use Rattle.syntax_trees.specs.Flat.{flat};
 ghost use Rattle.laid_types.specs.Handles.{has_handle};
 ghost use Rattle.value_lift.specs.Lifting.{is_integer, IsFor};
 
-use ca_base::MemoryOr;
-use ca_types::{ValType, Value, Values};
+use faults::MemoryOr;
 use laid_types::LaidType;
 use std::alloc::Global;
 use std::test::Fail;
+use syntax_trees::{ValType, Value, Values};
 use table_texts::holds;
 use type_texts::value_told;
 use value_lift::{

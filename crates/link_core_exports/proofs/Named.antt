@@ -4,10 +4,10 @@ use Rattle.std.specs.List.{slice_get, find, AllByRecursion, flat_map}
 use Rattle.std.specs.Option.{option_and_then, option_map}
 use Rattle.std.specs.Str.{bytes_eq}
 use Rattle.std.proofs.lemmas.Slice.Eq.{bytes_eq-Decides}
-use Rattle.ca_base.specs.Names.{first_named, AreDistinct}
-use Rattle.ca_base.proofs.FirstNamed.{found_by_name}
-use Rattle.wasm_module.specs.declared.module.Export.{Export}
-use Rattle.wasm_module.specs.declared.module.ModuleTree.{ModuleTree}
+use Rattle.syntax_trees.specs.Names.{first_named, AreDistinct}
+use Rattle.syntax_trees.proofs.FirstNamed.{found_by_name}
+use Rattle.syntax_trees.specs.declared.module.Export.{Export}
+use Rattle.syntax_trees.specs.declared.module.ModuleTree.{ModuleTree}
 use Rattle.comp_graph.specs.CoreItems.{CoreItem, item_of}
 use Rattle.link_spec.specs.Definitions.{CoreExport, core_named, listed, exports_of}
 

@@ -5,11 +5,11 @@ use Rattle.std.specs.List.{slice_get, AllZip}
 use Rattle.std.specs.Option.{option_map, option_and_then}
 use Rattle.std.proofs.lemmas.Option.{slice_get-map, option_and_then_some}
 use Rattle.std.proofs.lemmas.Bool.Decides.{same_from_decides}
-use Rattle.wasm_module.specs.declared.types.FuncType as core
-use Rattle.wasm_module.specs.declared.module.ImportDesc.{ImportDesc}
-use Rattle.wasm_module.specs.declared.module.ImportDesc.TheVariants as wanted
-use Rattle.wasm_module.specs.declared.module.ModuleTree.{ModuleTree}
-use Rattle.wasm_module.specs.Spaces.{func_space, type_of_func}
+use Rattle.syntax_trees.specs.declared.module_types.FuncType as core
+use Rattle.syntax_trees.specs.declared.module.ImportDesc.{ImportDesc}
+use Rattle.syntax_trees.specs.declared.module.ImportDesc.TheVariants as wanted
+use Rattle.syntax_trees.specs.declared.module.ModuleTree.{ModuleTree}
+use Rattle.wasm_typing.specs.Spaces.{func_space, type_of_func}
 use Rattle.comp_graph.specs.declared.graph.CoreRef.{CoreRef}
 use Rattle.comp_graph.specs.declared.graph.FuncRef.TheVariants as func_ref
 use Rattle.comp_graph.specs.declared.graph.CanonFunc.{CanonFunc}

@@ -3,8 +3,8 @@ use Rattle.std.proofs.Common.{◌≡◌, ℕ, true, false, List, [], ◌∷◌, 
 use Rattle.std.specs.Prelude.{IfSome, Result, Ok, Err, nat_lt}
 use Rattle.std.specs.List.{slice_get, list_all, AllByRecursion}
 use Rattle.std.specs.Str.{bytes_eq}
-use Rattle.wasm_module.specs.declared.module.Import.{Import}
-use Rattle.wasm_module.specs.declared.module.ModuleTree.{ModuleTree}
+use Rattle.syntax_trees.specs.declared.module.Import.{Import}
+use Rattle.syntax_trees.specs.declared.module.ModuleTree.{ModuleTree}
 use Rattle.comp_tree.specs.declared.core_instances.CoreArgument.{CoreArgument}
 use Rattle.comp_graph.specs.declared.graph.CanonFunc.{CanonFunc}
 use Rattle.comp_graph.specs.Graph.{CoreMake, IsItem}

@@ -1,7 +1,7 @@
 -- Core modules and core instances (Component Model, Explainer.md, "Index Spaces"): the modules that linking has come to, by their
 -- numbers, and the core instances that are made of them, in order of making.
 use Rattle.std.specs.Prelude.{List}
-use Rattle.wasm_module.specs.declared.module.ModuleTree.{ModuleTree}
+use Rattle.syntax_trees.specs.declared.module.ModuleTree.{ModuleTree}
 use Rattle.comp_graph.specs.Graph.{CoreMake}
 
 -- both lists

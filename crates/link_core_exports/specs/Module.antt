@@ -1,9 +1,9 @@
 -- What is kept of a core module, so that its definitions are looked up at once (Core 2.0, section 2.5.1).
 use Rattle.std.specs.Prelude.{◌≡◌, ℕ, List, map}
 use Rattle.std.specs.BTreeMap.{BTreeMap}
-use Rattle.wasm_module.specs.declared.types.Limits.{Limits}
-use Rattle.wasm_module.specs.declared.module.ModuleTree.{ModuleTree}
-use Rattle.ca_base.specs.Names.{at_name, first_named}
+use Rattle.syntax_trees.specs.declared.module_types.Limits.{Limits}
+use Rattle.syntax_trees.specs.declared.module.ModuleTree.{ModuleTree}
+use Rattle.syntax_trees.specs.Names.{at_name, first_named}
 use Rattle.comp_graph.specs.CoreItems.{table_space, memory_space}
 use denote.Ref.{Bor}
 

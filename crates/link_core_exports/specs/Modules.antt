@@ -2,7 +2,7 @@
 -- "Instance Definitions").
 use Rattle.std.specs.Prelude.{◌≡◌, ℕ, List, map, Some}
 use Rattle.std.specs.List.{slice_get, AllByRecursion, AllZip}
-use Rattle.wasm_module.specs.declared.module.ModuleTree.{ModuleTree}
+use Rattle.syntax_trees.specs.declared.module.ModuleTree.{ModuleTree}
 use Rattle.comp_graph.specs.declared.graph.CanonFunc.{CanonFunc}
 use Rattle.comp_graph.specs.Graph.{CoreMake, IsItem}
 use Rattle.link_spec.specs.Definitions.{CoreExport}

@@ -2,16 +2,17 @@
 
 ghost use Rattle.std.specs.Prelude.{◌≡◌, Some, None, Ok, Err, MatchOption, MatchResult};
 ghost use Rattle.std.specs.List.{slice_get};
-ghost use Rattle.ca_base.specs.Faults.{IfFault};
+ghost use Rattle.faults.specs.Faults.{IfFault};
 ghost use Rattle.link_spec.specs.Computed.{core_aliased};
 
 use crate::core_item::CoreItem;
 use crate::exports::CoreExports;
 use crate::names::missing;
-use ca_base::{MemoryOr, Name};
 use comp_tree::Sort;
+use faults::MemoryOr;
 use link_spec::LinkWhy;
 use std::alloc::Global;
+use syntax_trees::Name;
 
 /// What the core instance of an index exports.
 pub(crate) fn exports_at<'r, 'a>(

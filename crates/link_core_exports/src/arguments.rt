@@ -4,7 +4,7 @@ ghost use Rattle.std.specs.Prelude.{◌≡◌, Some, None, Ok, Err, MatchOption,
 ghost use Rattle.std.specs.List.{slice_get};
 ghost use Rattle.std.specs.Option.{option_and_then, option_map};
 ghost use Rattle.std.specs.Str.{bytes_eq};
-ghost use Rattle.ca_base.specs.Faults.{IfFault};
+ghost use Rattle.faults.specs.Faults.{IfFault};
 ghost use Rattle.link_spec.specs.Items.{argument_named};
 ghost use Rattle.link_spec.specs.Computed as computed;
 
@@ -12,13 +12,14 @@ use crate::aliases::exports_at;
 use crate::core_item::CoreItem;
 use crate::exports::CoreExports;
 use crate::names::missing;
-use ca_base::{MemoryOr, by_name, find};
+use ca_base::{by_name, find};
 use comp_tree::CoreArgument;
+use faults::MemoryOr;
 use link_spec::LinkWhy;
 use std::alloc::{AllocError, Global};
 use std::collections::BTreeMap;
 use std::marker::Model;
-use wasm_module::Import;
+use syntax_trees::Import;
 
 /// Arguments, and the numbers of these by their names. Contracts see the arguments.
 #[derive(Drop)]
@@ -32,7 +33,7 @@ impl<'a> Model for Arguments<'a> {
     ghost use Rattle.std.specs.Coded.{coded_list};
     ghost use Rattle.comp_tree.specs.declared.core_instances.CoreArgument.{CoreArgument};
     ghost use Rattle.comp_tree.specs.contracts.core_instances.CoreArgument as argument;
-    ghost use Rattle.ca_base.specs.Names.{at_name, first_named};
+    ghost use Rattle.syntax_trees.specs.Names.{at_name, first_named};
 
     ghost Value = { List CoreArgument };
 

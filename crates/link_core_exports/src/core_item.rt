@@ -3,7 +3,7 @@
 ghost use Rattle.std.specs.Prelude.{◌≡◌, true, Some, None, MatchOption};
 ghost use Rattle.std.specs.List.{slice_get};
 ghost use Rattle.std.specs.Option.{option_and_then};
-ghost use Rattle.wasm_module.specs.declared.module.ModuleTree.{ModuleTree};
+ghost use Rattle.syntax_trees.specs.declared.module.ModuleTree.{ModuleTree};
 ghost use Rattle.comp_graph.specs.declared.graph.CoreRef.{CoreRef};
 ghost use Rattle.comp_graph.specs.declared.graph.FuncRef.{FuncRef};
 ghost use Rattle.comp_graph.specs.declared.graph.FuncRef.TheVariants as func_ref;
@@ -17,9 +17,8 @@ use comp_graph::{CoreExtern, CoreRef, FuncRef};
 use comp_tree::{CoreSort, Sort};
 use link_core_types::CoreFuncType;
 use std::marker::Model;
-use wasm_module::{
-    FuncType, GlobalType, ImportDesc, Limits, ModuleTree, Mutability, ValType, are_same,
-};
+use syntax_trees::module_types::{FuncType, ValType};
+use syntax_trees::{GlobalType, ImportDesc, Limits, ModuleTree, Mutability, are_same};
 
 /// What a core definition is, with its type: that which the module of its core instance gives it, or what the Canonical ABI makes.
 #[derive(Drop)]
@@ -44,9 +43,9 @@ pub struct CoreItem<'a> {
 
 impl<'a> Model for CoreItem<'a> {
     ghost use Rattle.std.specs.Coded.{codes};
-    ghost use Rattle.wasm_module.specs.contracts.types.FuncType as func_type;
-    ghost use Rattle.wasm_module.specs.contracts.types.Limits as limits;
-    ghost use Rattle.wasm_module.specs.contracts.types.GlobalType as global_type;
+    ghost use Rattle.syntax_trees.specs.contracts.module_types.FuncType as func_type;
+    ghost use Rattle.syntax_trees.specs.contracts.module_types.Limits as limits;
+    ghost use Rattle.syntax_trees.specs.contracts.module_types.GlobalType as global_type;
     ghost use Rattle.comp_graph.specs.contracts.graph.CoreRef as core_ref;
     ghost use Rattle.comp_graph.specs.contracts.graph.FuncRef as func_ref;
     ghost use Rattle.comp_graph.specs.CoreItems as items;

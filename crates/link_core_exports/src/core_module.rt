@@ -3,7 +3,7 @@
 ghost use Rattle.std.specs.Prelude.{◌≡◌, IfOk};
 ghost use Rattle.std.specs.List.{slice_get};
 ghost use Rattle.std.specs.Option.{option_and_then};
-ghost use Rattle.wasm_module.specs.Spaces.{func_space, imported_tables, imported_memories};
+ghost use Rattle.wasm_typing.specs.Spaces.{func_space, imported_tables, imported_memories};
 ghost use Rattle.comp_graph.specs.CoreItems.{item_of, table_space, memory_space};
 ghost use Rattle.link_spec.specs.Definitions.{core_named, exports_of};
 
@@ -13,8 +13,8 @@ use comp_graph::CoreRef;
 use std::alloc::{AllocError, Global};
 use std::collections::BTreeMap;
 use std::marker::Model;
-use wasm_module::{ExportDesc, Import, ImportDesc, Limits, ModuleTree, Space};
-use wasm_typing::Valid;
+use syntax_trees::{ExportDesc, Import, ImportDesc, Limits, ModuleTree};
+use wasm_typing::{Space, Valid};
 
 /// A core module, with its index spaces, and the numbers of its exports by their names. Contracts see the module.
 #[derive(Drop)]
@@ -27,8 +27,8 @@ pub struct CoreModule<'a> {
 }
 
 impl<'a> Model for CoreModule<'a> {
-    ghost use Rattle.wasm_module.specs.declared.module.ModuleTree.{ModuleTree};
-    ghost use Rattle.wasm_module.specs.contracts.module.ModuleTree as tree;
+    ghost use Rattle.syntax_trees.specs.declared.module.ModuleTree.{ModuleTree};
+    ghost use Rattle.syntax_trees.specs.contracts.module.ModuleTree as tree;
     ghost use Rattle.link_core_exports.specs.Module.{IsIndexed};
 
     ghost Value = { ModuleTree };

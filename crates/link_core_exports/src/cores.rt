@@ -2,8 +2,8 @@
 
 ghost use Rattle.std.specs.Prelude.{◌≡◌, ◌<◌, ◌++◌, ◌∷◌, [], List, Some, Ok, Err, MatchResult, IfOk, OnOk, OnErr, length};
 ghost use Rattle.std.specs.List.{slice_get};
-ghost use Rattle.ca_base.specs.Faults.{IfFault};
-ghost use Rattle.wasm_module.specs.declared.module.ModuleTree.{ModuleTree};
+ghost use Rattle.faults.specs.Faults.{IfFault};
+ghost use Rattle.syntax_trees.specs.declared.module.ModuleTree.{ModuleTree};
 ghost use Rattle.comp_graph.specs.declared.graph.CanonFunc.{CanonFunc};
 ghost use Rattle.link_spec.specs.Computed.{imports_outcome};
 ghost use Rattle.link_spec.specs.Definitions.{exports_of};
@@ -14,14 +14,14 @@ use crate::core_module::CoreModule;
 use crate::exports::CoreExports;
 use crate::imports::imports_passed;
 use crate::modules::CoreModules;
-use ca_base::{MemoryOr, Seq};
-use ca_types::Shared;
 use comp_graph::{CoreExtern, CoreMake, graph_number};
 use comp_tree::CoreArgument;
+use faults::MemoryOr;
 use link_core_types::ModuleTypes;
 use link_spec::LinkWhy;
 use std::alloc::{AllocError, Global};
 use std::marker::Model;
+use syntax_trees::{Seq, Shared};
 
 /// The core modules, by their numbers, and the core instances that are made of them, in order of making. Contracts see both lists.
 #[derive(Drop)]
@@ -32,7 +32,7 @@ pub struct Cores<'a> {
 
 impl<'a> Model for Cores<'a> {
     ghost use Rattle.std.specs.Coded.{codes};
-    ghost use Rattle.wasm_module.specs.contracts.module.ModuleTree as tree;
+    ghost use Rattle.syntax_trees.specs.contracts.module.ModuleTree as tree;
     ghost use Rattle.comp_graph.specs.contracts.graph.CoreExtern as core_extern;
     ghost use Rattle.link_core_exports.specs.Modules.{AreModulesOf};
     ghost use Rattle.link_core_exports.specs.Cores.{CoreLists};

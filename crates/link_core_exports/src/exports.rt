@@ -6,8 +6,8 @@ ghost use Rattle.link_spec.specs.Definitions.{core_named, exports_of};
 use crate::core_item::CoreItem;
 use crate::core_module::CoreModule;
 use crate::inline_exports::InlineExports;
-use ca_types::Shared;
 use std::marker::Model;
+use syntax_trees::Shared;
 
 /// Where the exports of a core instance come from.
 #[derive(Drop)]
@@ -27,9 +27,9 @@ pub struct CoreExports<'a> {
 impl<'a> Model for CoreExports<'a> {
     ghost use Rattle.std.specs.Prelude.{List};
     ghost use Rattle.std.specs.Coded.{codes};
-    ghost use Rattle.wasm_module.specs.contracts.types.FuncType as func_type;
-    ghost use Rattle.wasm_module.specs.contracts.types.Limits as limits;
-    ghost use Rattle.wasm_module.specs.contracts.types.GlobalType as global_type;
+    ghost use Rattle.syntax_trees.specs.contracts.module_types.FuncType as func_type;
+    ghost use Rattle.syntax_trees.specs.contracts.module_types.Limits as limits;
+    ghost use Rattle.syntax_trees.specs.contracts.module_types.GlobalType as global_type;
     ghost use Rattle.comp_graph.specs.contracts.graph.CoreRef as core_ref;
     ghost use Rattle.comp_graph.specs.contracts.graph.FuncRef as func_ref;
     ghost use Rattle.link_spec.specs.Definitions.{CoreExport};

@@ -24,9 +24,9 @@ pub struct Given<'a> {
 
 impl<'a> Model for Given<'a> {
     ghost use Rattle.std.specs.Coded.{codes};
-    ghost use Rattle.wasm_module.specs.contracts.types.FuncType as func_type;
-    ghost use Rattle.wasm_module.specs.contracts.types.Limits as limits;
-    ghost use Rattle.wasm_module.specs.contracts.types.GlobalType as global_type;
+    ghost use Rattle.syntax_trees.specs.contracts.module_types.FuncType as func_type;
+    ghost use Rattle.syntax_trees.specs.contracts.module_types.Limits as limits;
+    ghost use Rattle.syntax_trees.specs.contracts.module_types.GlobalType as global_type;
     ghost use Rattle.comp_graph.specs.contracts.graph.CoreRef as core_ref;
     ghost use Rattle.comp_graph.specs.contracts.graph.FuncRef as func_ref;
     ghost use Rattle.link_spec.specs.Canons as canons;

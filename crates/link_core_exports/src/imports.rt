@@ -2,8 +2,8 @@
 
 ghost use Rattle.std.specs.Prelude.{◌≡◌, ◌<◌, List, Some, None, Ok, Err, MatchResult, IfOk, nat_lt, length, map};
 ghost use Rattle.std.specs.List.{list_all, slice_get, AllByRecursion};
-ghost use Rattle.ca_base.specs.Faults.{IfFault};
-ghost use Rattle.wasm_module.specs.declared.module.ModuleTree.{ModuleTree};
+ghost use Rattle.faults.specs.Faults.{IfFault};
+ghost use Rattle.syntax_trees.specs.declared.module.ModuleTree.{ModuleTree};
 ghost use Rattle.comp_tree.specs.declared.core_instances.CoreArgument.{CoreArgument};
 ghost use Rattle.comp_graph.specs.declared.graph.CanonFunc.{CanonFunc};
 ghost use Rattle.comp_graph.specs.CoreItems.{extern_of};
@@ -18,12 +18,12 @@ use crate::core_item::CoreItem;
 use crate::exports::CoreExports;
 use crate::modules::CoreModules;
 use crate::names::are_distinct;
-use ca_base::{MemoryOr, Seq};
 use comp_graph::CoreExtern;
 use comp_tree::CoreArgument;
+use faults::MemoryOr;
 use link_spec::LinkWhy;
 use std::alloc::{AllocError, Global};
-use wasm_module::ModuleTree;
+use syntax_trees::{ModuleTree, Seq};
 
 /// Whether the core instance of each argument is there, where there are so many.
 fn are_there(count: usize, arguments: &[CoreArgument]) -> bool

@@ -6,11 +6,12 @@ ghost use Rattle.std.specs.Option.{option_and_then, option_map};
 ghost use Rattle.link_spec.specs.Definitions.{core_named};
 
 use crate::core_item::CoreItem;
-use ca_base::{Name, by_name, find};
+use ca_base::{by_name, find};
 use comp_tree::CoreInlineExport;
 use std::alloc::{AllocError, Global};
 use std::collections::BTreeMap;
 use std::marker::Model;
+use syntax_trees::Name;
 
 /// A core definition under a name.
 #[derive(Drop)]
@@ -21,9 +22,9 @@ pub struct InlineExport<'a> {
 
 impl<'a> Model for InlineExport<'a> {
     ghost use Rattle.std.specs.Coded.{codes};
-    ghost use Rattle.wasm_module.specs.contracts.types.FuncType as func_type;
-    ghost use Rattle.wasm_module.specs.contracts.types.Limits as limits;
-    ghost use Rattle.wasm_module.specs.contracts.types.GlobalType as global_type;
+    ghost use Rattle.syntax_trees.specs.contracts.module_types.FuncType as func_type;
+    ghost use Rattle.syntax_trees.specs.contracts.module_types.Limits as limits;
+    ghost use Rattle.syntax_trees.specs.contracts.module_types.GlobalType as global_type;
     ghost use Rattle.comp_graph.specs.contracts.graph.CoreRef as core_ref;
     ghost use Rattle.comp_graph.specs.contracts.graph.FuncRef as func_ref;
     ghost use Rattle.link_spec.specs.Definitions.{CoreExport};
@@ -61,12 +62,12 @@ pub struct InlineExports<'a> {
 impl<'a> Model for InlineExports<'a> {
     ghost use Rattle.std.specs.Prelude.{◌≡◌, ℕ, List, map};
     ghost use Rattle.std.specs.Coded.{codes};
-    ghost use Rattle.wasm_module.specs.contracts.types.FuncType as func_type;
-    ghost use Rattle.wasm_module.specs.contracts.types.Limits as limits;
-    ghost use Rattle.wasm_module.specs.contracts.types.GlobalType as global_type;
+    ghost use Rattle.syntax_trees.specs.contracts.module_types.FuncType as func_type;
+    ghost use Rattle.syntax_trees.specs.contracts.module_types.Limits as limits;
+    ghost use Rattle.syntax_trees.specs.contracts.module_types.GlobalType as global_type;
     ghost use Rattle.comp_graph.specs.contracts.graph.CoreRef as core_ref;
     ghost use Rattle.comp_graph.specs.contracts.graph.FuncRef as func_ref;
-    ghost use Rattle.ca_base.specs.Names.{at_name, first_named};
+    ghost use Rattle.syntax_trees.specs.Names.{at_name, first_named};
     ghost use Rattle.link_spec.specs.Definitions.{CoreExport};
 
     ghost Value = { List CoreExport };

@@ -10,11 +10,10 @@ ghost use Rattle.link_core_exports.specs.Places.{place_asked, place_of_type};
 
 use crate::core_item::CoreItem;
 use crate::core_module::CoreModule;
-use ca_types::Shared;
 use comp_graph::FuncRef;
 use link_core_types::{ModuleType, ModuleTypes};
 use std::alloc::{AllocError, Global};
-use wasm_module::{ImportDesc, ModuleTree};
+use syntax_trees::{ImportDesc, ModuleTree, Shared};
 
 /// Core modules, which of them each core instance is made of, and their types. `AreModulesOf` says when the three agree; what is
 /// answered of imports is told where they do.

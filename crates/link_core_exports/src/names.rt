@@ -1,13 +1,15 @@
 //! Names that stand twice, and names that are not there.
 
 ghost use Rattle.std.specs.Prelude.{◌≡◌, IfOk, map};
-ghost use Rattle.ca_base.specs.Faults.{IfFault};
+ghost use Rattle.faults.specs.Faults.{IfFault};
 ghost use Rattle.link_spec.specs.declared.fault.LinkWhy.TheVariants as why;
 ghost use Rattle.link_spec.specs.Tests as tests;
 
-use ca_base::{MemoryOr, Name, Named, first_twice};
+use ca_base::first_twice;
+use faults::MemoryOr;
 use link_spec::LinkWhy;
 use std::alloc::{AllocError, Global};
+use syntax_trees::{Name, Named};
 
 /// Whether no name stands twice. It fails for want of memory alone.
 pub fn are_distinct<T: Named>(alloc: Global, items: &[T]) -> Result<bool, AllocError>

@@ -4,7 +4,7 @@ use Rattle.std.specs.List.{slice_get}
 use Rattle.std.specs.Option.{option_and_then}
 use Rattle.std.specs.BTreeMap.{BTreeMap, get}
 use denote.Ref.{Bor}
-use Rattle.wasm_module.specs.declared.types.FuncType.{FuncType}
+use Rattle.syntax_trees.specs.declared.module_types.FuncType.{FuncType}
 use Rattle.link_core_types.specs.declared.module_type.ModuleType.{ModuleType}
 use Rattle.link_core_types.specs.Types.{type_at, AreSame}
 use Rattle.link_core_types.specs.Kept.{type_cmp, AreKept}

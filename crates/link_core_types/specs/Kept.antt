@@ -2,7 +2,7 @@
 use Rattle.std.specs.Prelude.{◌≡◌, List, Some}
 use Rattle.std.specs.declared.cmp.Ordering.{Ordering}
 use Rattle.std.specs.BTreeMap.{BTreeMap, get}
-use Rattle.wasm_module.specs.declared.types.FuncType.{FuncType}
+use Rattle.syntax_trees.specs.declared.module_types.FuncType.{FuncType}
 use Rattle.link_core_types.specs.declared.module_type.ModuleType.{ModuleType}
 use Rattle.link_core_types.specs.contracts.module_type.ModuleTypeOrd.TheImpl as order
 use Rattle.link_core_types.specs.Types.{type_at, AreSame}

@@ -2,7 +2,7 @@
 use Rattle.std.specs.Prelude.{◌≡◌, List, Option, Some, None}
 use Rattle.std.specs.List.{slice_get}
 use Rattle.std.specs.Option.{option_and_then}
-use Rattle.wasm_module.specs.declared.types.FuncType.{FuncType}
+use Rattle.syntax_trees.specs.declared.module_types.FuncType.{FuncType}
 use Rattle.link_core_types.specs.declared.module_type.ModuleType.{ModuleType}
 
 -- the type at an index of a module, where both are there

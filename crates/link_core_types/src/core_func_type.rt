@@ -5,7 +5,7 @@ ghost use Rattle.std.specs.Prelude.{◌≡◌, option_to_list};
 use crate::few_types::FewTypes;
 use std::marker::Model;
 use std::slice;
-use wasm_module::ValType;
+use syntax_trees::module_types::ValType;
 
 /// The type of a core function that the Canonical ABI makes or asks for (Component Model, CanonicalABI.md, "Flattening"): at most 17
 /// parameters, and one result. Contracts see the type.
@@ -17,8 +17,8 @@ pub struct CoreFuncType {
 
 impl Model for CoreFuncType {
     ghost use Rattle.std.specs.Prelude.{option_to_list};
-    ghost use Rattle.wasm_module.specs.declared.types.FuncType as func_types;
-    ghost use Rattle.wasm_module.specs.contracts.types.FuncType as func_type;
+    ghost use Rattle.syntax_trees.specs.declared.module_types.FuncType as func_types;
+    ghost use Rattle.syntax_trees.specs.contracts.module_types.FuncType as func_type;
 
     ghost Value = { func_types.FuncType };
 

@@ -1,12 +1,12 @@
 //! The types of the core values in which values are passed.
 
 ghost use Rattle.std.specs.Prelude.{◌≡◌, ◌≤◌, ◌<◌, ◌++◌, ◌∷◌, [], length, map};
-ghost use Rattle.ca_types.specs.Flat.{at_most};
+ghost use Rattle.syntax_trees.specs.Flat.{at_most};
 ghost use Rattle.comp_graph.specs.Needs.{core_val};
 
-use ca_types::CoreType;
 use std::marker::Model;
-use wasm_module::ValType;
+use syntax_trees::CoreType;
+use syntax_trees::module_types::ValType;
 
 /// At most 17 types of core values: those of parameters, and of one place in memory behind them. Contracts see the types.
 #[derive(Drop)]
@@ -18,8 +18,8 @@ pub struct FewTypes {
 impl Model for FewTypes {
     ghost use Rattle.std.specs.Prelude.{◌≤◌, List, take};
     ghost use Rattle.std.specs.Coded.{coded_list};
-    ghost use Rattle.wasm_module.specs.contracts.types.ValType as val_type;
-    ghost use Rattle.wasm_module.specs.declared.types.ValType.{ValType};
+    ghost use Rattle.syntax_trees.specs.contracts.module_types.ValType as val_type;
+    ghost use Rattle.syntax_trees.specs.declared.module_types.ValType.{ValType};
 
     ghost Value = { List ValType };
 

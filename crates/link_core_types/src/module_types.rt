@@ -8,7 +8,8 @@ use crate::type_texts::text_of;
 use std::alloc::{AllocError, Global};
 use std::collections::BTreeMap;
 use std::marker::Model;
-use wasm_module::{FuncType, are_same};
+use syntax_trees::are_same;
+use syntax_trees::module_types::FuncType;
 
 /// The types of the functions of core modules, by the numbers of the modules. Types of equal content may stand at many indices, in
 /// many modules. A type that is asked for is read once, and compared once with the first one of its content that was asked for;
@@ -25,8 +26,8 @@ pub struct ModuleTypes<'a> {
 impl<'a> Model for ModuleTypes<'a> {
     ghost use Rattle.std.specs.Prelude.{List, map};
     ghost use Rattle.std.specs.Coded.{coded_list};
-    ghost use Rattle.wasm_module.specs.declared.types.FuncType.{FuncType};
-    ghost use Rattle.wasm_module.specs.contracts.types.FuncType as func_type;
+    ghost use Rattle.syntax_trees.specs.declared.module_types.FuncType.{FuncType};
+    ghost use Rattle.syntax_trees.specs.contracts.module_types.FuncType as func_type;
     ghost use Rattle.link_core_types.specs.Kept.{AreKept};
 
     ghost Value = { List (List FuncType) };

@@ -1,7 +1,7 @@
 //! Types of core functions as texts.
 
 use std::alloc::{AllocError, Global};
-use wasm_module::{FuncType, ValType};
+use syntax_trees::module_types::{FuncType, ValType};
 
 /// The letter of a type of values.
 fn letter(val_type: ValType) -> char {

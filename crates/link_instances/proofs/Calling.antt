@@ -10,7 +10,7 @@ use Rattle.std.proofs.lemmas.Grind.{flat_map-append}
 use Rattle.std.proofs.lemmas.Option.{get_or_from_slice_get}
 use Rattle.std.proofs.lemmas.Slice.Zip.{AllZip-long}
 use Rattle.link_spec.specs.Definitions.{Lifted, Definition, AFunc, AType, AComponent, AnInstance, AModule, Exports, EmptyInstance, WithExport}
-use Rattle.ca_types.specs.declared.types.FuncType.{FuncType}
+use Rattle.syntax_trees.specs.declared.types.FuncType.{FuncType}
 use Rattle.comp_graph.specs.Passed.{AreExportTypes}
 use Rattle.link_spec.specs.Linked.{Callable, funcs_behind, called, callables, export_of}
 use Rattle.link_types.specs.Table.{Table}

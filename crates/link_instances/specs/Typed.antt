@@ -1,7 +1,7 @@
 -- Functions that can be called, each with the number of its type (Component Model, Explainer.md, "Instance Definitions").
 use Rattle.std.specs.Prelude.{◌≡◌, ℕ, List, Some}
 use Rattle.std.specs.List.{slice_get, AllZip}
-use Rattle.ca_types.specs.declared.types.FuncType.{FuncType}
+use Rattle.syntax_trees.specs.declared.types.FuncType.{FuncType}
 use Rattle.link_spec.specs.Linked.{Callable}
 use Rattle.link_instances.specs.declared.called.TypedCallables.{TypedCallables}
 

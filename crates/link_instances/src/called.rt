@@ -3,7 +3,7 @@
 ghost use Rattle.std.specs.Prelude.{◌≡◌, ◌∷◌, ◌++◌, [], ℕ, List, Some, codes, map, length, IfOk, IfSome, OnOk};
 ghost use Rattle.std.specs.List.{slice_get};
 ghost use Rattle.std.specs.Option.{option_to_list};
-ghost use Rattle.ca_types.specs.declared.types.FuncType.{FuncType};
+ghost use Rattle.syntax_trees.specs.declared.types.FuncType.{FuncType};
 ghost use Rattle.comp_graph.specs.Passed.{AreExportTypes};
 ghost use Rattle.link_spec.specs.Definitions.{Lifted, Definition, Exports};
 ghost use Rattle.link_spec.specs.Linked as linked;
@@ -16,12 +16,11 @@ ghost use Rattle.link_instances.specs.Typed.{AreTyped};
 use crate::func_lists::FuncLists;
 use crate::instances::Instances;
 use crate::references::{DefinitionRef, InstanceRef, LiftedRef};
-use ca_base::Name;
-use ca_types::Export;
 use comp_graph::{Lift, graph_number};
 use link_types::Types;
 use std::alloc::{AllocError, Global};
 use std::marker::Model;
+use syntax_trees::{Export, Name};
 
 /// A function that can be called, and what it lifts. Contracts see its name and the function.
 #[derive(Drop)]
@@ -32,7 +31,7 @@ pub(crate) struct Callable {
 
 impl Model for Callable {
     ghost use Rattle.std.specs.Coded.{codes};
-    ghost use Rattle.ca_types.specs.contracts.types.FuncType as type_row;
+    ghost use Rattle.syntax_trees.specs.contracts.types.FuncType as type_row;
     ghost use Rattle.comp_graph.specs.contracts.graph.FuncRef as core_row;
     ghost use Rattle.comp_graph.specs.contracts.graph.Options as options_row;
     ghost use Rattle.link_spec.specs.Linked as linked;

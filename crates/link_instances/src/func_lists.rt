@@ -10,10 +10,10 @@ ghost use Rattle.link_instances.specs.Called.{func_entry, func_entries, AreFuncs
 
 use crate::instances::Instances;
 use crate::references::{DefinitionRef, InstanceRef, LiftedRef};
-use ca_base::Seq;
 use link_types::Types;
 use std::alloc::{AllocError, Global};
 use std::collections::BTreeMap;
+use syntax_trees::Seq;
 
 /// The functions of instances, each under the number of its name.
 #[derive(Drop)]

@@ -4,8 +4,8 @@ use Rattle.std.specs.Prelude.{◌&&◌, ◌||◌, not}
 use Rattle.std.specs.Option.{option_map}
 use denote.Ref.{Bor}
 use Rattle.std.specs.Str.{bytes_eq}
-use Rattle.ca_base.specs.Names.{has, is_among}
-use Rattle.ca_base.proofs.Seen.{among_more}
+use Rattle.syntax_trees.specs.Names.{has, is_among}
+use Rattle.syntax_trees.proofs.Seen.{among_more}
 use Rattle.comp_tree.specs.declared.instances.Sort.{Sort}
 use Rattle.comp_tree.specs.declared.instances.Sort.TheVariants as sorts
 use Rattle.comp_graph.specs.Closed.{Closed, Extern, OfFunc, OfType, OfInstance, Externs, extern_named}

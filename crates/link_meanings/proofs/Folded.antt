@@ -1,7 +1,7 @@
 -- What types mean and declarations make, by what they hold.
 use Rattle.std.proofs.Common.{◌≡◌, ◌∙◌, ◌<◌, ◌+◌, ℕ, List, [], ◌∷◌, ◌++◌, length, map, take, get_or, refl, ap, sym}
 use Rattle.std.proofs.lemmas.List.{map-append}
-use Rattle.ca_base.proofs.Seen.{take_one}
+use Rattle.syntax_trees.proofs.Seen.{take_one}
 use Rattle.comp_tree.specs.declared.externs.ExternDesc.{ExternDesc}
 use Rattle.comp_tree.specs.declared.types.DefValType.{DefValType}
 use Rattle.comp_tree.specs.declared.types.FuncType as read_func

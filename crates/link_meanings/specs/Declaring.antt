@@ -3,7 +3,7 @@
 use Rattle.std.specs.Prelude.{◌≡◌, ℕ, true, ◌&&◌, ◌||◌, List}
 use Rattle.std.specs.Option.{option_map}
 use Rattle.std.specs.List.{AllZip}
-use Rattle.ca_base.specs.Names.{has, is_among}
+use Rattle.syntax_trees.specs.Names.{has, is_among}
 use Rattle.comp_tree.specs.declared.types.InstanceDecl.{InstanceDecl}
 use Rattle.comp_tree.specs.declared.types.DefType.TheFolds.{fold-InstanceDecl}
 use Rattle.comp_graph.specs.Closed.{Closed, Instance, Externs, first_of}

@@ -1,9 +1,9 @@
 -- Fields, cases and places (Component Model, Explainer.md, "Type Definitions") with the numbers of their types.
 use Rattle.std.specs.Prelude.{◌≡◌, ℕ, List, Some}
 use Rattle.std.specs.List.{slice_get}
-use Rattle.ca_types.specs.declared.types.ValType.{ValType}
-use Rattle.ca_types.specs.declared.types.Field.{Field}
-use Rattle.ca_types.specs.declared.types.Case.{Case}
+use Rattle.syntax_trees.specs.declared.types.ValType.{ValType}
+use Rattle.syntax_trees.specs.declared.types.Field.{Field}
+use Rattle.syntax_trees.specs.declared.types.Case.{Case}
 use Rattle.laid_types.specs.declared.layer.LabelledPart.{LabelledPart}
 use Rattle.laid_types.specs.declared.layer.LabelledCase.{LabelledCase}
 use Rattle.link_types.specs.Layered.{MayBeValue}

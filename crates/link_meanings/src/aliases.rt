@@ -16,10 +16,10 @@ ghost use Rattle.link_meanings.specs.References.{ref_of_sort};
 use crate::declaring::Declared;
 use crate::levels::{Enclosing, level_at};
 use crate::outer::{outer_component, outer_type};
-use ca_base::Name;
 use comp_tree::{Alias, AliasTarget, Sort};
 use link_types::{ExternRef, InstanceTypeRef, Meant, Types, asked_named};
 use std::alloc::{AllocError, Global};
+use syntax_trees::Name;
 
 /// What an export is, if it is of this sort.
 fn of_sort(sort: Sort, item: ExternRef) -> Option<ExternRef>

@@ -15,12 +15,12 @@ ghost use Rattle.link_meanings.specs.References.{type_ref_in, instance_ref_in};
 use crate::exporting::{brought_with, export_brings, export_described};
 use crate::levels::Enclosing;
 use crate::so_far::SoFar;
-use ca_base::{Name, adds};
 use comp_tree::{ExternDesc, Sort};
 use link_spec::sort_of;
 use link_types::{ExternRef, InstanceTypeRef, Meant, TypeRef, Types};
 use std::alloc::{AllocError, Global};
 use std::collections::BTreeSet;
+use syntax_trees::{Name, adds};
 
 /// An instance type whose declarations are read: its index spaces so far, where what has no meaning has an index too, the names
 /// of its exports so far, and what its declarations tell.

@@ -4,7 +4,7 @@
 //! resource are gone through than may stand in one another here, and each export in them takes one of the steps that the table allows.
 
 ghost use Rattle.std.specs.Prelude.{◌≡◌, ◌≤◌, suc, IfOk};
-ghost use Rattle.ca_types.specs.declared.types.FuncType.{FuncType};
+ghost use Rattle.syntax_trees.specs.declared.types.FuncType.{FuncType};
 ghost use Rattle.comp_graph.specs.Closed.{Closed, Extern, Externs};
 ghost use Rattle.link_values.specs.Resources.{renumbered_func};
 ghost use Rattle.link_spec.specs.Brought.{moved, moved_extern, moved_externs};

@@ -11,9 +11,9 @@ ghost use Rattle.link_types.specs.Table.{IsName, IsExtern, IsType, Grows};
 ghost use Rattle.link_meanings.specs.Meant.{IsFoundAs, IsMeaning};
 ghost use Rattle.link_meanings.specs.Declaring.{IsSoFar, told_more, as_instance};
 
-use ca_base::Name;
 use link_types::{ExternRef, InstanceTypeMaker, Meant, TypeRef, Types};
 use std::alloc::{AllocError, Global};
+use syntax_trees::Name;
 
 /// What the declarations of an instance type tell so far.
 #[derive(Drop)]

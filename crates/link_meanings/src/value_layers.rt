@@ -2,8 +2,8 @@
 
 ghost use Rattle.std.specs.Prelude.{List, Option, IfOk};
 ghost use Rattle.std.specs.Option.{option_map, option_and_then};
-ghost use Rattle.ca_types.specs.declared.types.ValType.TheVariants as leaves;
-ghost use Rattle.ca_types.specs.declared.types.ValType.TheViews as val_type;
+ghost use Rattle.syntax_trees.specs.declared.types.ValType.TheVariants as leaves;
+ghost use Rattle.syntax_trees.specs.declared.types.ValType.TheViews as val_type;
 ghost use Rattle.comp_graph.specs.Closed.{Closed};
 ghost use Rattle.link_spec.specs.ValueTypes.{close_all, close_val, close_held, close_passed, close_resource, close_field, close_case, close_parts};
 ghost use Rattle.link_types.specs.Table.{IsValue, Grows};

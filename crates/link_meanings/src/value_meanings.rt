@@ -1,7 +1,7 @@
 //! Types of values.
 
 ghost use Rattle.std.specs.Prelude.{◌≡◌, not, nat_le, List, Option, IfOk};
-ghost use Rattle.ca_types.specs.declared.types.ValType.{ValType};
+ghost use Rattle.syntax_trees.specs.declared.types.ValType.{ValType};
 ghost use Rattle.comp_graph.specs.Closed.{Closed};
 ghost use Rattle.link_spec.specs.ValueTypes as value_types;
 ghost use Rattle.link_spec.specs.ValueTypes.{close_def};

@@ -3,7 +3,7 @@
 ghost use Rattle.std.specs.Prelude.{◌≡◌, List, map, Option, Some, IfOk, IfSome};
 ghost use Rattle.std.specs.List.{slice_get, AllZip};
 ghost use Rattle.std.specs.Option.{option_and_then};
-ghost use Rattle.ca_types.specs.declared.types.ValType.{ValType};
+ghost use Rattle.syntax_trees.specs.declared.types.ValType.{ValType};
 ghost use Rattle.comp_graph.specs.Closed as closings;
 ghost use Rattle.comp_graph.specs.Closed.{Closed};
 ghost use Rattle.link_spec.specs.Types as types_read;

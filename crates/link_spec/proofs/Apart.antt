@@ -5,12 +5,12 @@ use Rattle.std.specs.Prelude.{nat_le, is_none, IfSome}
 use Rattle.std.specs.Option.{option_map, option_and_then}
 use Rattle.std.specs.List.{slice_get, AllByRecursion}
 use Rattle.std.specs.Str.{bytes_eq}
-use Rattle.ca_base.specs.Names.{AreDistinct, first_twice, is_among}
-use Rattle.ca_base.proofs.Distinct.{distinct_law}
-use Rattle.ca_types.specs.declared.types.ValType.{ValType}
-use Rattle.ca_types.specs.declared.types.ValType.TheVariants as leaves
-use Rattle.ca_types.specs.declared.types.Param.{Param}
-use Rattle.ca_types.specs.declared.types.FuncType.{FuncType}
+use Rattle.syntax_trees.specs.Names.{AreDistinct, first_twice, is_among}
+use Rattle.syntax_trees.proofs.Distinct.{distinct_law}
+use Rattle.syntax_trees.specs.declared.types.ValType.{ValType}
+use Rattle.syntax_trees.specs.declared.types.ValType.TheVariants as leaves
+use Rattle.syntax_trees.specs.declared.types.Param.{Param}
+use Rattle.syntax_trees.specs.declared.types.FuncType.{FuncType}
 use Rattle.laid_types.specs.Depth.{depth}
 use Rattle.laid_types.specs.Handles.{held_borrow}
 use Rattle.comp_tree.specs.declared.externs.ExternDesc.{ExternDesc}

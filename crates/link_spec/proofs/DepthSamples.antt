@@ -4,10 +4,10 @@ use Rattle.std.specs.Prelude.{Ok, Err}
 use Rattle.std.specs.List.{slice_get}
 use Rattle.std.proofs.lemmas.List.{length-append, length-map}
 use Rattle.std.proofs.lemmas.Bool.Decides.{nat_tests}
-use Rattle.ca_types.specs.declared.types.ValType.{ValType}
-use Rattle.ca_types.specs.declared.types.ValType.TheVariants as leaves
-use Rattle.ca_types.specs.declared.types.ValType.TheViews as val_type
-use Rattle.ca_types.specs.declared.types.ValType.TheViews.{outs-U32, outs-List}
+use Rattle.syntax_trees.specs.declared.types.ValType.{ValType}
+use Rattle.syntax_trees.specs.declared.types.ValType.TheVariants as leaves
+use Rattle.syntax_trees.specs.declared.types.ValType.TheViews as val_type
+use Rattle.syntax_trees.specs.declared.types.ValType.TheViews.{outs-U32, outs-List}
 use Rattle.laid_types.specs.Depth.{depth}
 use Rattle.comp_tree.specs.declared.types.PrimValType.TheVariants.{U32}
 use Rattle.comp_tree.specs.declared.types.ValTypeRef.TheVariants as type_ref

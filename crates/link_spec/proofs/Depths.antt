@@ -1,10 +1,10 @@
 -- Shallow types: those that the test passes, and primitive types, which have depth 1.
 use Rattle.std.proofs.Common.{◌≡◌, ◌≤◌, ℕ, true, nat_le, subst, arith}
 use Rattle.std.proofs.lemmas.Bool.Decides.{nat_tests}
-use Rattle.ca_types.specs.declared.types.ValType.{ValType, roll-ValType}
-use Rattle.ca_types.specs.declared.types.ValType.TheOpen as F
-use Rattle.ca_types.specs.declared.types.ValType.TheViews.{rolls-Bool, rolls-S8, rolls-U8, rolls-S16, rolls-U16, rolls-S32, rolls-U32, rolls-S64, rolls-U64, rolls-Char, rolls-String}
-use Rattle.ca_types.specs.declared.types.ValType.TheFolds.{fold-roll-ValType}
+use Rattle.syntax_trees.specs.declared.types.ValType.{ValType, roll-ValType}
+use Rattle.syntax_trees.specs.declared.types.ValType.TheOpen as F
+use Rattle.syntax_trees.specs.declared.types.ValType.TheViews.{rolls-Bool, rolls-S8, rolls-U8, rolls-S16, rolls-U16, rolls-S32, rolls-U32, rolls-S64, rolls-U64, rolls-Char, rolls-String}
+use Rattle.syntax_trees.specs.declared.types.ValType.TheFolds.{fold-roll-ValType}
 use Rattle.laid_types.specs.Depth.{depth, depth_step, depth_case, depth_field}
 use Rattle.comp_tree.specs.declared.types.PrimValType.{PrimValType}
 use Rattle.comp_tree.specs.declared.types.PrimValType.TheVariants as prim

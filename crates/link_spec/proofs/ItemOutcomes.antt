@@ -3,9 +3,9 @@ use Rattle.std.proofs.Common.{◌≡◌, ◌⊎◌, inl, inr, ℕ, Bool, true, f
 use Rattle.std.specs.Prelude.{Ok}
 use Rattle.std.specs.Option.{option_and_then, MatchOption}
 use Rattle.std.specs.List.{slice_get, list_all, AllByRecursion}
-use Rattle.ca_base.specs.Names.{is_among}
-use Rattle.ca_types.specs.declared.types.FuncType.{FuncType}
-use Rattle.wasm_module.specs.declared.types.FuncType as core
+use Rattle.syntax_trees.specs.Names.{is_among}
+use Rattle.syntax_trees.specs.declared.types.FuncType.{FuncType}
+use Rattle.syntax_trees.specs.declared.module_types.FuncType as core
 use Rattle.comp_graph.specs.CoreItems.{core_func_of, func_part}
 use Rattle.comp_graph.specs.Needs.{lift_type, destructor_type}
 use Rattle.comp_graph.specs.declared.graph.FuncRef.{FuncRef}

@@ -5,8 +5,8 @@ use Rattle.std.specs.Bool.{Decides}
 use Rattle.std.specs.Option.{option_map_or}
 use Rattle.std.specs.List.{slice_get}
 use Rattle.std.proofs.lemmas.Bool.Decides.{nat_tests}
-use Rattle.ca_types.specs.declared.types.FuncType.{FuncType}
-use Rattle.wasm_module.specs.declared.types.FuncType as core
+use Rattle.syntax_trees.specs.declared.types.FuncType.{FuncType}
+use Rattle.syntax_trees.specs.declared.module_types.FuncType as core
 use Rattle.comp_graph.specs.CoreItems.{CoreItem, func_part}
 use Rattle.comp_graph.specs.Needs.{lift_type, realloc_type, callback_type, post_return_type, lift_needs_memory, lift_needs_realloc, lower_needs_memory, lower_needs_realloc}
 use Rattle.comp_tree.specs.declared.items.CanonOption.{CanonOption}

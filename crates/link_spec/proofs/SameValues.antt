@@ -5,13 +5,13 @@ use Rattle.std.specs.List.{AllByRecursion}
 use Rattle.std.specs.Str.{bytes_eq}
 use Rattle.std.proofs.lemmas.Bool.Decides.{Decides-eqb}
 use Rattle.std.proofs.lemmas.Slice.Eq.{bytes_eq-Decides}
-use Rattle.ca_types.specs.declared.types.ValType.{ValType, out-ValType, roll-ValType, fold-ValType}
-use Rattle.ca_types.specs.declared.types.ValType.TheViews.{out-roll-ValType, roll-out-ValType, roll-Case, roll-Field}
-use Rattle.ca_types.specs.declared.types.ValType.TheOpen as F
-use Rattle.ca_types.specs.declared.types.ValType.TheFolds.{fold-Case, fold-Field, fold-roll-ValType, ind-ValType, map-ValType, map-Case, map-Field}
-use Rattle.ca_types.specs.declared.types.Case.{Case}
-use Rattle.ca_types.specs.declared.types.Field.{Field}
-use Rattle.ca_types.proofs.Folds.{held, fold_case, fold_field}
+use Rattle.syntax_trees.specs.declared.types.ValType.{ValType, out-ValType, roll-ValType, fold-ValType}
+use Rattle.syntax_trees.specs.declared.types.ValType.TheViews.{out-roll-ValType, roll-out-ValType, roll-Case, roll-Field}
+use Rattle.syntax_trees.specs.declared.types.ValType.TheOpen as F
+use Rattle.syntax_trees.specs.declared.types.ValType.TheFolds.{fold-Case, fold-Field, fold-roll-ValType, ind-ValType, map-ValType, map-Case, map-Field}
+use Rattle.syntax_trees.specs.declared.types.Case.{Case}
+use Rattle.syntax_trees.specs.declared.types.Field.{Field}
+use Rattle.syntax_trees.proofs.Folds.{held, fold_case, fold_field}
 use Rattle.link_spec.specs.Same.{all_pass, held_passes, same_names, same_layer, same_step, same_case, same_field, same_val}
 
 pub never : {A : Type 0} → false ≡ true → A

@@ -3,9 +3,9 @@ use Rattle.std.proofs.Common.{◌≡◌, true, ◌&&◌, map, refl, ap, subst, O
 use Rattle.std.specs.Str.{bytes_eq}
 use Rattle.std.proofs.lemmas.Bool.Decides.{Decides-eqb}
 use Rattle.std.proofs.lemmas.Slice.Eq.{bytes_eq-Decides}
-use Rattle.ca_types.specs.declared.types.ValType.{ValType}
-use Rattle.ca_types.specs.declared.types.Param.{Param}
-use Rattle.ca_types.specs.declared.types.FuncType.{FuncType}
+use Rattle.syntax_trees.specs.declared.types.ValType.{ValType}
+use Rattle.syntax_trees.specs.declared.types.Param.{Param}
+use Rattle.syntax_trees.specs.declared.types.FuncType.{FuncType}
 use Rattle.comp_graph.specs.Closed.{Closed, Value, Func, Resource, Instance, Extern, OfFunc, OfType, OfInstance, Externs, EmptyType, WithExtern}
 use Rattle.link_spec.specs.Same.{all_pass, same_val, same_param, same_result, same_func, same_closed, same_extern, same_externs}
 use Rattle.link_spec.proofs.SameValues.{Tells, never, and, both, name_told, every, none_told, some_told, list_told, both_told, both_self, val_told}

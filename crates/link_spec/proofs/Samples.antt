@@ -1,17 +1,17 @@
 -- Small components, item by item: items are taken by their outer layers, and types by their folds.
 use Rattle.std.proofs.Common.{◌≡◌, ◌∙◌, sym, ap, refl, ℕ, Bool, true, false, map, List, [], ◌∷◌, None, Some}
 use Rattle.std.specs.Prelude.{Ok, Result, codes}
-use Rattle.ca_types.specs.declared.core_type.CoreType.{CoreType}
-use Rattle.ca_types.specs.declared.core_type.CoreType.TheVariants.{I32}
-use Rattle.ca_types.specs.declared.types.ValType.TheOpen as F
-use Rattle.ca_types.specs.declared.types.ValType.TheVariants as val_type
-use Rattle.ca_types.specs.declared.types.ValType.TheViews.{outs-U32, rolls-U32, rolls-String}
-use Rattle.ca_types.specs.declared.types.ValType.TheFolds.{fold-roll-ValType}
-use Rattle.ca_types.specs.Ends.{end_case, end_field}
-use Rattle.ca_types.specs.Flat.{flat, flat_step, flat_case, flat_field}
+use Rattle.syntax_trees.specs.declared.core_type.CoreType.{CoreType}
+use Rattle.syntax_trees.specs.declared.core_type.CoreType.TheVariants.{I32}
+use Rattle.syntax_trees.specs.declared.types.ValType.TheOpen as F
+use Rattle.syntax_trees.specs.declared.types.ValType.TheVariants as val_type
+use Rattle.syntax_trees.specs.declared.types.ValType.TheViews.{outs-U32, rolls-U32, rolls-String}
+use Rattle.syntax_trees.specs.declared.types.ValType.TheFolds.{fold-roll-ValType}
+use Rattle.syntax_trees.specs.Ends.{end_case, end_field}
+use Rattle.syntax_trees.specs.Flat.{flat, flat_step, flat_case, flat_field}
 use Rattle.laid_types.specs.Lists.{has_list, list_step}
 use Rattle.laid_types.specs.Handles.{has_borrow, borrow_step}
-use Rattle.wasm_module.specs.declared.types.ValType.TheVariants as core
+use Rattle.syntax_trees.specs.declared.module_types.ValType.TheVariants as core
 use Rattle.comp_graph.specs.Graph.{Graph, no_options}
 use Rattle.comp_graph.specs.Needs.{lifted_type, lowered_type, lift_type, lower_type, needs_memory, lift_needs_memory, lift_needs_realloc, lower_needs_memory, lower_needs_realloc}
 use Rattle.comp_graph.specs.declared.graph.BuiltinKind.TheVariants as builtin

@@ -5,13 +5,13 @@ use Rattle.std.specs.Prelude.{IfSome}
 use Rattle.std.specs.Option.{option_map, option_and_then}
 use Rattle.std.specs.List.{slice_get}
 use Rattle.std.specs.Str.{bytes_eq}
-use Rattle.wasm_module.specs.declared.module.Export.{Export}
-use Rattle.wasm_module.specs.declared.module.ExportDesc.{ExportDesc}
-use Rattle.wasm_module.specs.declared.module.ExportDesc.TheVariants as offered
-use Rattle.wasm_module.specs.declared.module.Import.{Import}
-use Rattle.wasm_module.specs.declared.module.ModuleTree.{ModuleTree}
-use Rattle.ca_types.specs.declared.types.ValType.{ValType}
-use Rattle.wasm_module.specs.Spaces.{type_of_func, global_space}
+use Rattle.syntax_trees.specs.declared.module.Export.{Export}
+use Rattle.syntax_trees.specs.declared.module.ExportDesc.{ExportDesc}
+use Rattle.syntax_trees.specs.declared.module.ExportDesc.TheVariants as offered
+use Rattle.syntax_trees.specs.declared.module.Import.{Import}
+use Rattle.syntax_trees.specs.declared.module.ModuleTree.{ModuleTree}
+use Rattle.syntax_trees.specs.declared.types.ValType.{ValType}
+use Rattle.wasm_typing.specs.Spaces.{type_of_func, global_space}
 use Rattle.comp_graph.specs.CoreItems.{table_space, memory_space}
 use Rattle.comp_graph.specs.CoreItems.{core_func_of}
 use Rattle.comp_graph.specs.Needs.{destructor_type}

@@ -3,10 +3,10 @@ use Rattle.std.proofs.Common.{◌≡◌, ℕ, Bool, true, false, ◌||◌, cond,
 use Rattle.std.specs.Prelude.{IfSome}
 use Rattle.std.specs.Option.{option_map}
 use Rattle.std.specs.Str.{bytes_eq}
-use Rattle.ca_base.specs.Names.{AreDistinct, is_among, twice_behind}
-use Rattle.ca_base.proofs.Seen.{among_more}
-use Rattle.ca_base.proofs.Distinct.{distinct_law}
-use Rattle.wasm_module.specs.declared.module.ModuleTree.{ModuleTree}
+use Rattle.syntax_trees.specs.Names.{AreDistinct, is_among, twice_behind}
+use Rattle.syntax_trees.proofs.Seen.{among_more}
+use Rattle.syntax_trees.proofs.Distinct.{distinct_law}
+use Rattle.syntax_trees.specs.declared.module.ModuleTree.{ModuleTree}
 use Rattle.comp_graph.specs.declared.graph.CanonFunc.{CanonFunc}
 use Rattle.comp_tree.specs.declared.instances.NamedDefinition.{NamedDefinition}
 use Rattle.comp_graph.specs.Closed.{Extern, OfFunc, OfType, OfInstance, Externs, EmptyType, WithExtern, extern_names}

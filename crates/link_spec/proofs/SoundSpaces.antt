@@ -4,7 +4,7 @@ use Rattle.std.proofs.Common.{ℕ, cond, List, [], ◌∷◌, ◌++◌, subst, a
 use Rattle.std.specs.Prelude.{IfSome}
 use Rattle.std.specs.List.{slice_get, AllByRecursion}
 use Rattle.std.specs.Str.{bytes_eq}
-use Rattle.wasm_module.specs.declared.module.ModuleTree.{ModuleTree}
+use Rattle.syntax_trees.specs.declared.module.ModuleTree.{ModuleTree}
 use Rattle.comp_graph.specs.declared.graph.CanonFunc.{CanonFunc}
 use Rattle.comp_graph.specs.Graph.{IsItem}
 use Rattle.comp_tree.specs.declared.core_instances.CoreSort.{CoreSort}

@@ -2,17 +2,17 @@
 -- the type is, and whether borrowed handles are in it.
 use Rattle.std.proofs.Common.{◌≡◌, ◌≤◌, ◌∙◌, ℕ, Bool, false, List, [], ◌∷◌, map, refl, ap, ap₂, sym, subst, Option, Some, None}
 use Rattle.std.specs.Option.{option_map}
-use Rattle.ca_types.specs.declared.types.ValType.{ValType, out-ValType, roll-ValType, fold-ValType}
-use Rattle.ca_types.specs.declared.types.ValType.TheViews.{out-roll-ValType, roll-out-ValType, roll-Case, roll-Field}
-use Rattle.ca_types.specs.declared.types.ValType.TheOpen as F
-use Rattle.ca_types.specs.declared.types.ValType.TheFolds.{fold-Case, fold-Field, fold-roll-ValType, ind-ValType, map-ValType, map-Case, map-Field}
-use Rattle.ca_types.specs.declared.types.Case.{Case}
-use Rattle.ca_types.specs.declared.types.Field.{Field}
-use Rattle.ca_types.specs.declared.types.Param.{Param}
-use Rattle.ca_types.proofs.Folds.{held, fold_case, fold_field}
+use Rattle.syntax_trees.specs.declared.types.ValType.{ValType, out-ValType, roll-ValType, fold-ValType}
+use Rattle.syntax_trees.specs.declared.types.ValType.TheViews.{out-roll-ValType, roll-out-ValType, roll-Case, roll-Field}
+use Rattle.syntax_trees.specs.declared.types.ValType.TheOpen as F
+use Rattle.syntax_trees.specs.declared.types.ValType.TheFolds.{fold-Case, fold-Field, fold-roll-ValType, ind-ValType, map-ValType, map-Case, map-Field}
+use Rattle.syntax_trees.specs.declared.types.Case.{Case}
+use Rattle.syntax_trees.specs.declared.types.Field.{Field}
+use Rattle.syntax_trees.specs.declared.types.Param.{Param}
+use Rattle.syntax_trees.proofs.Folds.{held, fold_case, fold_field}
 use Rattle.laid_types.specs.Depth.{depth, depth_step, depth_case, depth_field}
 use Rattle.laid_types.specs.Handles.{has_borrow, held_borrow, borrow_step}
-use Rattle.ca_types.specs.Ends.{end_case, end_field}
+use Rattle.syntax_trees.specs.Ends.{end_case, end_field}
 use Rattle.link_values.specs.Resources.{renumbered_step, same_case, same_field, renumbered, renumbered_param}
 use Rattle.link_spec.specs.Shallow.{depth_limit, IsShallow}
 use Rattle.link_spec.specs.Lending.{lends_case, lends}

@@ -1,14 +1,14 @@
 -- Value types, item by item: each is closed where its parts are, and its depth is told by its outer layer.
 use Rattle.std.proofs.Common.{◌≡◌, ◌∙◌, ℕ, suc, List, [], ◌∷◌, map, ap, sym, refl}
 use Rattle.std.specs.Prelude.{codes}
-use Rattle.ca_types.specs.declared.types.ValType.{ValType}
-use Rattle.ca_types.specs.declared.types.ValType.TheViews as val_type
-use Rattle.ca_types.specs.declared.types.ValType.TheViews.{outs-U32, outs-List, outs-Record, rolls-List, rolls-Record}
-use Rattle.ca_types.specs.declared.types.ValType.TheOpen as F
-use Rattle.ca_types.specs.declared.types.ValType.TheFolds.{fold-roll-ValType}
-use Rattle.ca_types.specs.declared.types.Field.{Field}
-use Rattle.ca_types.proofs.Folds.{fold_field}
-use Rattle.ca_types.proofs.Parts.{map_alike}
+use Rattle.syntax_trees.specs.declared.types.ValType.{ValType}
+use Rattle.syntax_trees.specs.declared.types.ValType.TheViews as val_type
+use Rattle.syntax_trees.specs.declared.types.ValType.TheViews.{outs-U32, outs-List, outs-Record, rolls-List, rolls-Record}
+use Rattle.syntax_trees.specs.declared.types.ValType.TheOpen as F
+use Rattle.syntax_trees.specs.declared.types.ValType.TheFolds.{fold-roll-ValType}
+use Rattle.syntax_trees.specs.declared.types.Field.{Field}
+use Rattle.syntax_trees.proofs.Folds.{fold_field}
+use Rattle.syntax_trees.proofs.Parts.{map_alike}
 use Rattle.laid_types.specs.Depth.{greatest, depth, depth_step, depth_case, depth_field}
 use Rattle.comp_tree.specs.declared.types.DefType.TheViews.{outs-Value}
 use Rattle.comp_tree.specs.declared.items.Item.TheVariants as plain

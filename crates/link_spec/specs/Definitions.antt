@@ -7,8 +7,8 @@ use Rattle.std.specs.Option.{option_map}
 use Rattle.std.specs.List.{flat_map}
 use Rattle.std.specs.Str.{bytes_eq}
 use Rattle.ca_base.specs.declared.placed.Placed.{Placed}
-use Rattle.wasm_module.specs.declared.module.Export.{Export}
-use Rattle.wasm_module.specs.declared.module.ModuleTree.{ModuleTree}
+use Rattle.syntax_trees.specs.declared.module.Export.{Export}
+use Rattle.syntax_trees.specs.declared.module.ModuleTree.{ModuleTree}
 pub use Rattle.comp_graph.specs.declared.graph.CoreRef.{CoreRef}
 pub use Rattle.comp_graph.specs.declared.graph.FuncRef.{FuncRef}
 pub use Rattle.comp_graph.specs.CoreItems.{CoreItem, Func, Table, Memory, Global, extern_of, item_of, MaxIsWithin, IsWithin, CoreFits}

@@ -2,8 +2,8 @@
 -- of functions that can be called (Explainer.md, "Import and Export Definitions").
 use Rattle.std.specs.Prelude.{◌≢◌, ℕ, List, map}
 use Rattle.std.specs.List.{AllByRecursion}
-use Rattle.ca_base.specs.Names.{AreDistinct}
-use Rattle.ca_types.specs.declared.types.FuncType.{FuncType}
+use Rattle.syntax_trees.specs.Names.{AreDistinct}
+use Rattle.syntax_trees.specs.declared.types.FuncType.{FuncType}
 
 -- No two parameters of a function have one label.
 abbrev pub HasDistinctLabels : FuncType → Type 0

@@ -2,10 +2,10 @@
 -- is refused, for one reason; instances stay few; and graphs are sound.
 use Rattle.std.specs.Prelude.{◌≡◌, ◌≤◌, ◌↔◌, ◌⊎◌, ℕ, true, List, [], length, Ok, Err}
 use Rattle.std.specs.List.{AllByRecursion, AllZip}
-use Rattle.ca_base.specs.Names.{AreDistinct}
+use Rattle.syntax_trees.specs.Names.{AreDistinct}
 use Rattle.ca_base.specs.declared.placed.Placed.{Placed}
-use Rattle.ca_types.specs.declared.types.FuncType.{FuncType}
-use Rattle.ca_types.specs.declared.exports.Export.{Export}
+use Rattle.syntax_trees.specs.declared.types.FuncType.{FuncType}
+use Rattle.syntax_trees.specs.declared.exports.Export.{Export}
 use Rattle.comp_graph.specs.declared.graph.CanonFunc.{CanonFunc}
 use Rattle.comp_graph.specs.declared.graph.CanonFunc.TheVariants as canon_func
 use Rattle.comp_graph.specs.Graph.{Graph, CoreMake, names, IsLiftThere, AreImported, AreMade}

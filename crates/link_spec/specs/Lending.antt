@@ -1,11 +1,11 @@
 -- Where no borrowed handle stands (Component Model, Explainer.md, "Type Definitions": `borrow`; CanonicalABI.md, `lift_borrow`): it is
 -- lent for a call, so that what a function gives holds none, and what passes in a stream or a future holds none.
 use Rattle.std.specs.Prelude.{◌≡◌, Bool, false}
-use Rattle.ca_types.specs.declared.types.ValType.{ValType, out-ValType}
-use Rattle.ca_types.specs.declared.types.ValType.TheOpen.{ValType-F}
-use Rattle.ca_types.specs.declared.types.Case.{Case}
-use Rattle.ca_types.specs.declared.types.Field.{Field}
-use Rattle.ca_types.specs.declared.types.FuncType.{FuncType}
+use Rattle.syntax_trees.specs.declared.types.ValType.{ValType, out-ValType}
+use Rattle.syntax_trees.specs.declared.types.ValType.TheOpen.{ValType-F}
+use Rattle.syntax_trees.specs.declared.types.Case.{Case}
+use Rattle.syntax_trees.specs.declared.types.Field.{Field}
+use Rattle.syntax_trees.specs.declared.types.FuncType.{FuncType}
 use Rattle.laid_types.specs.Handles.{held_borrow}
 use Rattle.comp_graph.specs.declared.graph.CanonFunc.{CanonFunc}
 use Rattle.comp_graph.specs.declared.graph.CanonFunc.TheVariants as canon_func

@@ -3,9 +3,9 @@
 -- first item that is refused.
 use Rattle.std.specs.Prelude.{◌≡◌, ◌<◌, ℕ, true, List, [], ◌∷◌, ◌++◌, length, map, Option, Some, None, codes}
 use Rattle.std.specs.List.{slice_get}
-use Rattle.ca_base.specs.Names.{AreDistinct}
+use Rattle.syntax_trees.specs.Names.{AreDistinct}
 use Rattle.ca_base.specs.declared.placed.Placed.{Placed}
-use Rattle.ca_types.specs.declared.exports.Export.{Export}
+use Rattle.syntax_trees.specs.declared.exports.Export.{Export}
 use Rattle.comp_graph.specs.declared.graph.Lift.{Lift}
 use Rattle.comp_graph.specs.Graph.{Graph}
 use Rattle.comp_tree.specs.declared.instances.NamedDefinition.{NamedDefinition}

@@ -2,9 +2,9 @@
 -- itself counted, and so does each type of a parameter or a result. The limit is one of this repository.
 use Rattle.std.specs.Prelude.{◌≤◌, ℕ, IfSome}
 use Rattle.std.specs.List.{AllByRecursion}
-use Rattle.ca_types.specs.declared.types.ValType.{ValType}
-use Rattle.ca_types.specs.declared.types.Param.{Param}
-use Rattle.ca_types.specs.declared.types.FuncType.{FuncType}
+use Rattle.syntax_trees.specs.declared.types.ValType.{ValType}
+use Rattle.syntax_trees.specs.declared.types.Param.{Param}
+use Rattle.syntax_trees.specs.declared.types.FuncType.{FuncType}
 use Rattle.laid_types.specs.Depth.{depth}
 
 -- how deep a value type may be

@@ -5,8 +5,8 @@
 use Rattle.std.specs.Prelude.{ℕ, Bool, ◌&&◌, List, [], ◌∷◌, ◌++◌, length, map, set, Option, Some, None}
 use Rattle.std.specs.Option.{option_map, option_and_then}
 use Rattle.std.specs.List.{slice_get, flat_map}
-use Rattle.ca_types.specs.declared.types.ValType.{ValType}
-use Rattle.wasm_module.specs.declared.module.ModuleTree.{ModuleTree}
+use Rattle.syntax_trees.specs.declared.types.ValType.{ValType}
+use Rattle.syntax_trees.specs.declared.module.ModuleTree.{ModuleTree}
 use Rattle.comp_tree.specs.declared.core_instances.CoreSort.{CoreSort}
 use Rattle.comp_tree.specs.declared.core_instances.CoreSort.TheVariants as core_sort
 use Rattle.comp_tree.specs.declared.instances.Sort.{Sort}

@@ -4,12 +4,12 @@
 use Rattle.std.specs.Prelude.{ℕ, Bool, true, false, not, ◌&&◌, nat_lt, nat_le, is_none, cond, List, [], ◌∷◌, length, map, Option, Some, None}
 use Rattle.std.specs.Option.{option_map, option_and_then}
 use Rattle.std.specs.List.{slice_get, list_all}
-use Rattle.ca_base.specs.Names.{first_twice}
-use Rattle.ca_types.specs.declared.types.ValType.{ValType}
-use Rattle.ca_types.specs.declared.types.ValType.TheVariants as leaves
-use Rattle.ca_types.specs.declared.types.ValType.TheViews as val_type
-use Rattle.ca_types.specs.declared.types.Field.{Field}
-use Rattle.ca_types.specs.declared.types.Case.{Case}
+use Rattle.syntax_trees.specs.Names.{first_twice}
+use Rattle.syntax_trees.specs.declared.types.ValType.{ValType}
+use Rattle.syntax_trees.specs.declared.types.ValType.TheVariants as leaves
+use Rattle.syntax_trees.specs.declared.types.ValType.TheViews as val_type
+use Rattle.syntax_trees.specs.declared.types.Field.{Field}
+use Rattle.syntax_trees.specs.declared.types.Case.{Case}
 use Rattle.laid_types.specs.Depth.{depth}
 use Rattle.laid_types.specs.Handles.{held_borrow}
 use Rattle.comp_tree.specs.declared.types.PrimValType.{PrimValType}

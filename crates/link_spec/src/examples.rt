@@ -1,7 +1,7 @@
 //! Examples of the definitions, worked out by hand.
 
 ghost use Rattle.std.specs.Prelude.{◌≡◌, true, false, [], ◌∷◌, None, Some, Ok, codes};
-ghost use Rattle.wasm_module.specs.declared.types.ValType.TheVariants.{I32};
+ghost use Rattle.syntax_trees.specs.declared.module_types.ValType.TheVariants.{I32};
 ghost use Rattle.comp_tree.specs.declared.instances.Sort.TheVariants as sorts;
 ghost use Rattle.comp_tree.specs.declared.externs.ExternDesc.TheVariants as desc;
 ghost use Rattle.comp_tree.specs.declared.types.ValTypeRef.TheVariants as type_ref;

@@ -1,6 +1,6 @@
 //! Why components are not linked.
 
-use ca_base::Name;
+use syntax_trees::Name;
 use thiserror::Error;
 
 /// Why an item of a component is refused. Of the reasons against one item the first in this order is told.

@@ -3,15 +3,16 @@
 
 ghost use Rattle.std.specs.Prelude.{◌≡◌, nat_lt, map, is_none, IfOk};
 ghost use Rattle.std.specs.List.{list_all};
-ghost use Rattle.ca_base.specs.Names.{first_twice};
+ghost use Rattle.syntax_trees.specs.Names.{first_twice};
 ghost use Rattle.comp_tree.specs.declared.types.Field.{Field};
 ghost use Rattle.comp_tree.specs.declared.types.Case.{Case};
 ghost use Rattle.link_spec.specs.Types as types_read;
 ghost use Rattle.link_spec.specs.ValueTypes as value_types;
 
-use ca_base::{Name, Named, first_twice};
+use ca_base::first_twice;
 use comp_tree::{Case, DefValType, Field, FuncType, Param, ValTypeRef};
 use std::alloc::{AllocError, Global};
+use syntax_trees::{Name, Named};
 
 /// How many labels flags may have.
 const FLAGS_LIMIT: usize = 32;

@@ -2,7 +2,7 @@
 //! are to be (Component Model, Explainer.md, "Type Definitions" and "Import and Export Definitions").
 
 ghost use Rattle.std.specs.Prelude.{◌≡◌, [], List};
-ghost use Rattle.ca_types.specs.declared.types.ValType.{ValType};
+ghost use Rattle.syntax_trees.specs.declared.types.ValType.{ValType};
 ghost use Rattle.laid_types.specs.Layers.{type_of, part_numbers};
 ghost use Rattle.link_spec.specs.Types as types_read;
 

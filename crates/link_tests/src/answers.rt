@@ -6,17 +6,18 @@
 ghost use Rattle.std.specs.Prelude.{◌<◌, length};
 
 use builtin_kinds::{ContextOp, EndKind, EndSide, PlainBuiltin, ResourceOp, WaitOp};
-use ca_base::{MemoryOr, ReadError, Refusal};
-use ca_types::ValType;
+use ca_base::{ReadError, Refusal};
 use comp_graph::{
     Action, Builtin, BuiltinKind, CanonFunc, CoreExtern, CoreMake, CoreRef, EndOp, FuncRef, Graph,
     Lift, Lower, Options, Resource,
 };
 use comp_link::{LinkFault, LinkWhy, link};
 use comp_reader::{Component, ComponentWhy, read_component};
+use faults::MemoryOr;
 use std::alloc::{AllocError, Global};
 use std::fmt::Write;
 use std::test::Fail;
+use syntax_trees::ValType;
 use type_texts::type_told;
 
 /// How many core instances are told by their number alone.

@@ -1,11 +1,11 @@
 -- What lifts and lowers ask of a function type, parameter by parameter.
 use Rattle.std.proofs.Common.{◌≡◌, ◌∙◌, ◌<◌, ◌≤◌, ◌+◌, ℕ, Bool, true, false, ◌||◌, List, [], ◌∷◌, ◌++◌, length, map, take, drop, get_or, ap, sym, Option, Some}
 use Rattle.std.specs.List.{slice_get, AllZip, flat_map}
-use Rattle.ca_types.specs.declared.core_type.CoreType.{CoreType}
-use Rattle.ca_types.specs.declared.types.ValType.{ValType}
-use Rattle.ca_types.specs.declared.types.Param.{Param}
-use Rattle.ca_types.specs.Ends.{some_true}
-use Rattle.ca_types.specs.Flat.{flat}
+use Rattle.syntax_trees.specs.declared.core_type.CoreType.{CoreType}
+use Rattle.syntax_trees.specs.declared.types.ValType.{ValType}
+use Rattle.syntax_trees.specs.declared.types.Param.{Param}
+use Rattle.syntax_trees.specs.Ends.{some_true}
+use Rattle.syntax_trees.specs.Flat.{flat}
 use Rattle.laid_types.proofs.Kept.{row_more, row_kept, row_end}
 use Rattle.link_types.specs.declared.labels.LabelledType.{LabelledType}
 use Rattle.link_types.specs.Labels.{IsParam}

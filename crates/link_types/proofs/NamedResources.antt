@@ -1,7 +1,7 @@
 -- What references tell of the types that they stand for: whether they name a resource.
 use Rattle.std.proofs.Common.{◌≡◌, ℕ, Bool, true, nat_lt, refl}
-use Rattle.ca_types.specs.declared.types.ValType.{ValType}
-use Rattle.ca_types.specs.declared.types.FuncType.{FuncType}
+use Rattle.syntax_trees.specs.declared.types.ValType.{ValType}
+use Rattle.syntax_trees.specs.declared.types.FuncType.{FuncType}
 use Rattle.laid_types.specs.Handles.{top_resource}
 use Rattle.comp_graph.specs.Closed.{Closed, Value, Func, Resource, Instance, Extern, OfFunc, OfType, OfInstance, names_in_func, names_resource, names_in_extern}
 use Rattle.link_values.specs.declared.refs.FuncTypeRef.{FuncTypeRef}

@@ -3,7 +3,7 @@
 use Rattle.std.specs.Prelude.{◌≡◌, ℕ, List, map, Some}
 use Rattle.std.specs.Ordering.{nat_cmp}
 use Rattle.std.specs.BTreeMap.{BTreeMap, get}
-use Rattle.ca_types.specs.declared.types.FuncType.{FuncType}
+use Rattle.syntax_trees.specs.declared.types.FuncType.{FuncType}
 use Rattle.comp_graph.specs.declared.func_types.NumberedFunc.{NumberedFunc}
 use Rattle.comp_graph.specs.Passed.{AreNumbered}
 use Rattle.link_types.specs.Table.{Table, AreDistinct, IsFunc}

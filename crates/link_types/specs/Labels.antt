@@ -1,9 +1,9 @@
 -- Function types (Component Model, Explainer.md, "Type Definitions") of labels with the numbers of value types.
 use Rattle.std.specs.Prelude.{◌≡◌, ◌<◌, ℕ, List, length, Option, Some}
 use Rattle.std.specs.List.{slice_get, AllZip}
-use Rattle.ca_types.specs.declared.types.ValType.{ValType}
-use Rattle.ca_types.specs.declared.types.Param.{Param}
-use Rattle.ca_types.specs.declared.types.FuncType.{FuncType}
+use Rattle.syntax_trees.specs.declared.types.ValType.{ValType}
+use Rattle.syntax_trees.specs.declared.types.Param.{Param}
+use Rattle.syntax_trees.specs.declared.types.FuncType.{FuncType}
 use Rattle.laid_types.specs.Layers.{IsThere}
 use Rattle.link_types.specs.Layered.{MayBeValue}
 use Rattle.link_types.specs.declared.labels.LabelledType.{LabelledType}

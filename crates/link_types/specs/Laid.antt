@@ -2,8 +2,8 @@
 -- "Flattening"): the first 17 core types of the parameters, and of the result, so that more than 16 are seen, and whether they hold
 -- a string or a list.
 use Rattle.std.specs.Prelude.{◌≡◌, take}
-use Rattle.ca_types.specs.declared.types.FuncType.{FuncType}
-use Rattle.ca_types.specs.Flat.{flat_params, flat_payload}
+use Rattle.syntax_trees.specs.declared.types.FuncType.{FuncType}
+use Rattle.syntax_trees.specs.Flat.{flat_params, flat_payload}
 use Rattle.laid_types.specs.Lists.{held_list}
 use Rattle.comp_graph.specs.Closed.{names_in_func}
 use Rattle.comp_graph.specs.Needs.{hold_list}

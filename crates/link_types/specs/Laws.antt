@@ -1,7 +1,7 @@
 -- What holds of tables of types (Component Model, Explainer.md, "Type Definitions").
 use Rattle.std.specs.Prelude.{◌≡◌, ◌<◌, ℕ, List, length}
-use Rattle.ca_types.specs.declared.types.ValType.{ValType}
-use Rattle.ca_types.specs.declared.types.FuncType.{FuncType}
+use Rattle.syntax_trees.specs.declared.types.ValType.{ValType}
+use Rattle.syntax_trees.specs.declared.types.FuncType.{FuncType}
 use Rattle.comp_graph.specs.Closed.{Closed, Extern, Externs}
 use Rattle.link_values.specs.declared.layers.TypeLayer.{TypeLayer}
 use Rattle.link_values.specs.declared.layers.Layer.{Layer}

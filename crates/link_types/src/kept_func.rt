@@ -6,11 +6,11 @@ ghost use Rattle.link_types.specs.Laid.{IsLaid};
 
 use crate::labels::{LabelledType, closed_func};
 use crate::laid_func::LaidFunc;
-use ca_types::{FuncType, Shared};
 use comp_graph::{NumberedFunc, graph_number};
 use link_values::ValueTypes;
 use std::alloc::{AllocError, Global};
 use std::marker::Model;
+use syntax_trees::{FuncType, Shared};
 
 /// A function type, with what lifts and lowers ask of it. Contracts see the function type.
 #[derive(Drop)]
@@ -20,8 +20,8 @@ pub(crate) struct KeptFunc {
 }
 
 impl Model for KeptFunc {
-    ghost use Rattle.ca_types.specs.declared.types.FuncType.{FuncType};
-    ghost use Rattle.ca_types.specs.contracts.types.FuncType as func_type_row;
+    ghost use Rattle.syntax_trees.specs.declared.types.FuncType.{FuncType};
+    ghost use Rattle.syntax_trees.specs.contracts.types.FuncType as func_type_row;
     ghost use Rattle.link_types.specs.Laid.{IsLaid};
 
     ghost Value = { FuncType };

@@ -6,10 +6,9 @@ ghost use Rattle.laid_types.specs.Layers.{IsThere};
 ghost use Rattle.link_types.specs.Layered.{MayBeValue};
 ghost use Rattle.link_types.specs.Labels.{HaveTypes, AreValues, IsParam, IsFuncOf};
 
-use ca_base::{Name, Seq};
-use ca_types::{FuncType, Param, Shared, ValType};
 use link_values::ValueTypes;
 use std::alloc::{AllocError, Global};
+use syntax_trees::{FuncType, Name, Param, Seq, Shared, ValType};
 
 /// A parameter, with the number of its type.
 #[derive(Clone, Copy)]

@@ -2,10 +2,10 @@
 
 ghost use Rattle.std.specs.Prelude.{◌≡◌, nat_lt, map, take, IfOk, Option};
 ghost use Rattle.std.specs.List.{AllZip};
-ghost use Rattle.ca_types.specs.declared.types.FuncType.{FuncType};
-ghost use Rattle.ca_types.specs.declared.types.ValType.{ValType};
-ghost use Rattle.ca_types.specs.Ends.{some_true};
-ghost use Rattle.ca_types.specs.Flat.{flat_params, flat_payload};
+ghost use Rattle.syntax_trees.specs.declared.types.FuncType.{FuncType};
+ghost use Rattle.syntax_trees.specs.declared.types.ValType.{ValType};
+ghost use Rattle.syntax_trees.specs.Ends.{some_true};
+ghost use Rattle.syntax_trees.specs.Flat.{flat_params, flat_payload};
 ghost use Rattle.comp_graph.specs.Closed.{names_in_param, names_in_func};
 ghost use Rattle.comp_graph.specs.Needs.{hold_list};
 ghost use Rattle.laid_types.specs.Handles.{top_resource, held_top};
@@ -16,11 +16,10 @@ ghost use Rattle.link_types.specs.Laid.{IsLaid};
 ghost use Rattle.link_types.specs.Layered.{MayBeValue};
 
 use crate::labels::LabelledType;
-use ca_base::Seq;
-use ca_types::CoreType;
 use laid_types::LaidType;
 use link_values::ValueTypes;
 use std::alloc::{AllocError, Global};
+use syntax_trees::{CoreType, Seq};
 
 /// How many core types are kept: one more than are passed as core parameters, so that "too many" can be told.
 const MOST_KEPT: usize = 17;

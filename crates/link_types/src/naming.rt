@@ -1,8 +1,8 @@
 //! Whether types name a resource.
 
 ghost use Rattle.std.specs.Prelude.{◌≡◌, ◌||◌, nat_lt};
-ghost use Rattle.ca_types.specs.declared.types.FuncType.{FuncType};
-ghost use Rattle.ca_types.specs.declared.types.ValType.{ValType};
+ghost use Rattle.syntax_trees.specs.declared.types.FuncType.{FuncType};
+ghost use Rattle.syntax_trees.specs.declared.types.ValType.{ValType};
 ghost use Rattle.laid_types.specs.Handles.{top_resource};
 ghost use Rattle.comp_graph.specs.Closed as closed_types;
 ghost use Rattle.comp_graph.specs.Closed.{Closed, Extern, names_in_func, names_in_extern};

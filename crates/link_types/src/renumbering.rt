@@ -6,10 +6,10 @@
 ghost use Rattle.std.specs.Prelude.{◌≡◌, map, Some, IfOk};
 ghost use Rattle.std.specs.Option.{option_map};
 ghost use Rattle.std.specs.List.{AllZip};
-ghost use Rattle.ca_types.specs.declared.types.FuncType.{FuncType};
-ghost use Rattle.ca_types.specs.declared.types.ValType.{ValType};
-ghost use Rattle.ca_types.specs.declared.types.ValType.TheViews as val_type_views;
-ghost use Rattle.ca_types.specs.declared.types.ValType.TheVariants as leaves;
+ghost use Rattle.syntax_trees.specs.declared.types.FuncType.{FuncType};
+ghost use Rattle.syntax_trees.specs.declared.types.ValType.{ValType};
+ghost use Rattle.syntax_trees.specs.declared.types.ValType.TheViews as val_type_views;
+ghost use Rattle.syntax_trees.specs.declared.types.ValType.TheVariants as leaves;
 ghost use Rattle.link_values.specs.Resources as resources;
 ghost use Rattle.link_types.specs.Changes.{change_of};
 ghost use Rattle.link_types.specs.Layered.{MayBeValue};
@@ -18,12 +18,11 @@ ghost use Rattle.link_types.specs.Table.{IsValue, IsFunc, Grows};
 
 use crate::labels::LabelledType;
 use crate::types::Types;
-use ca_base::Name;
-use ca_types::{Case, Field, FuncType, Param, Shared, ValType};
 use comp_graph::graph_number;
 use laid_types::{LabelledCase, LabelledPart, ValTypeLayer};
 use link_values::{Change, FuncTypeRef, plain_layer};
 use std::alloc::{AllocError, Global};
+use syntax_trees::{Case, Field, FuncType, Name, Param, Shared, ValType};
 
 /// The length of text for which a label takes one step more.
 const STEP_LENGTH: usize = 64;

@@ -3,9 +3,9 @@
 ghost use Rattle.std.specs.Prelude.{◌≡◌, ◌<◌, ◌∷◌, ◌↔◌, ℕ, List, length, Some, None, IfOk, IfSome, IsTrue};
 ghost use Rattle.std.specs.List.{slice_get, AllZip};
 ghost use Rattle.std.specs.Option.{MatchOption};
-ghost use Rattle.ca_types.specs.declared.types.FuncType.{FuncType};
-ghost use Rattle.ca_types.specs.declared.types.Param.{Param};
-ghost use Rattle.ca_types.specs.declared.types.ValType.TheVariants as leaves;
+ghost use Rattle.syntax_trees.specs.declared.types.FuncType.{FuncType};
+ghost use Rattle.syntax_trees.specs.declared.types.Param.{Param};
+ghost use Rattle.syntax_trees.specs.declared.types.ValType.TheVariants as leaves;
 ghost use Rattle.comp_graph.specs.Closed.{Closed, Externs, extern_named};
 ghost use Rattle.comp_graph.specs.Passed.{params_type, IsNumbered};
 ghost use Rattle.laid_types.specs.Layers.{AreThere, type_of, part_numbers};
@@ -17,8 +17,6 @@ ghost use Rattle.link_types.specs.Table.{no_types, IsName, IsValue, IsFunc, IsTy
 use crate::kept_func::KeptFunc;
 use crate::labels::{LabelledType, type_numbers};
 use crate::laid_func::LaidFunc;
-use ca_base::Name;
-use ca_types::{FuncType, Shared};
 use comp_graph::{FuncTypes, NumberedFunc};
 use laid_types::{LaidType, ValTypeLayer};
 use link_values::{
@@ -28,6 +26,7 @@ use link_values::{
 use std::alloc::{AllocError, Global};
 use std::collections::BTreeMap;
 use std::marker::Model;
+use syntax_trees::{FuncType, Name, Shared};
 
 /// How many layers of types may be gone through where numbers of resources are changed, and how many times `LOOK_COUNT` exports where
 /// these are counted or found. A type that stands in others over and over comes to more, and then there is no memory for it.
@@ -58,8 +57,8 @@ pub struct Types<'a> {
 
 impl<'a> Model for Types<'a> {
     ghost use Rattle.std.specs.Coded.{codes};
-    ghost use Rattle.ca_types.specs.contracts.types.ValType as val_type;
-    ghost use Rattle.ca_types.specs.contracts.types.FuncType as func_type;
+    ghost use Rattle.syntax_trees.specs.contracts.types.ValType as val_type;
+    ghost use Rattle.syntax_trees.specs.contracts.types.FuncType as func_type;
     ghost use Rattle.link_values.specs.contracts.layers.Layer as layer;
     ghost use Rattle.link_values.specs.contracts.refs.ExternRef as extern_ref;
     ghost use Rattle.link_types.specs.Table.{Table};

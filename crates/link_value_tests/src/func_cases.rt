@@ -1,11 +1,11 @@
 //! What lifts ask of function types.
 
 use crate::labelling::func_type;
-use ca_types::CoreType;
 use cases::{Answers, check_lines};
 use link_types::{LaidFunc, Types};
 use std::alloc::Global;
 use std::test::Fail;
+use syntax_trees::CoreType;
 
 /// A line the types of the parameters and of the result: the first 17 core types of each, and `list` where it holds a string or a
 /// list. A pair is a tuple of two u32.

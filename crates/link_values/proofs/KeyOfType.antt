@@ -1,7 +1,7 @@
 -- The key of a layer is one of its type, over the lists of labels and the types as they are then.
 use Rattle.std.proofs.Common.{◌≡◌, ◌∙◌, ◌∷◌, ◌++◌, [], ℕ, List, length, ap, sym, subst, Option, Some}
 use Rattle.std.specs.List.{slice_get}
-use Rattle.ca_types.specs.declared.types.ValType.{ValType}
+use Rattle.syntax_trees.specs.declared.types.ValType.{ValType}
 use Rattle.laid_types.specs.declared.layer.ValTypeLayer.{ValTypeLayer}
 use Rattle.laid_types.specs.Layers.{AreThere, type_of, part_numbers, layer_labels}
 use Rattle.link_values.specs.declared.keys.ValueKey.{ValueKey}

@@ -2,7 +2,7 @@
 use Rattle.std.proofs.Common.{◌≡◌, ◌∙◌, ℕ, cond, List, [], ◌∷◌, ◌++◌, length, ap, sym, subst, Some, None}
 use Rattle.std.specs.BTreeMap.{BTreeMap, Updates, UpdatesBy}
 use Rattle.std.specs.Ordering.{is_eq}
-use Rattle.ca_types.specs.declared.types.ValType.{ValType}
+use Rattle.syntax_trees.specs.declared.types.ValType.{ValType}
 use Rattle.laid_types.specs.declared.layer.ValTypeLayer.{ValTypeLayer}
 use Rattle.laid_types.specs.Layers.{AreThere, type_of, part_numbers, layer_labels}
 use Rattle.link_values.specs.declared.keys.ValueKey.{ValueKey}

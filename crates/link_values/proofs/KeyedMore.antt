@@ -4,7 +4,7 @@ use Rattle.std.specs.List.{slice_get}
 use Rattle.std.specs.BTreeMap.{BTreeMap}
 use Rattle.std.specs.Ordering.{is_eq}
 use Rattle.std.specs.declared.cmp.Ordering.TheVariants.{Equal}
-use Rattle.ca_types.specs.declared.types.ValType.{ValType}
+use Rattle.syntax_trees.specs.declared.types.ValType.{ValType}
 use Rattle.link_values.specs.declared.keys.ValueKey.{ValueKey}
 use Rattle.link_values.specs.Keys.{IsKeyOf}
 use Rattle.link_values.specs.Keyed.{AreKeyed, key_cmp, number_in}

@@ -1,8 +1,8 @@
 -- The key of a layer is one of the layer's type.
 use Rattle.std.proofs.Common.{◌≡◌, ◌∙◌, ℕ, List, map, ap, sym, subst, Some}
 use Rattle.std.specs.Option.{option_map}
-use Rattle.ca_types.specs.declared.types.ValType.{ValType}
-use Rattle.ca_types.specs.declared.types.ValType.TheViews.{outs-Bool, outs-S8, outs-U8, outs-S16, outs-U16, outs-S32, outs-U32, outs-S64, outs-U64, outs-Char, outs-String, outs-Record, outs-Variant, outs-List, outs-Tuple, outs-Flags, outs-Enum, outs-Option, outs-Result, outs-Own, outs-Borrow, outs-Stream, outs-Future}
+use Rattle.syntax_trees.specs.declared.types.ValType.{ValType}
+use Rattle.syntax_trees.specs.declared.types.ValType.TheViews.{outs-Bool, outs-S8, outs-U8, outs-S16, outs-U16, outs-S32, outs-U32, outs-S64, outs-U64, outs-Char, outs-String, outs-Record, outs-Variant, outs-List, outs-Tuple, outs-Flags, outs-Enum, outs-Option, outs-Result, outs-Own, outs-Borrow, outs-Stream, outs-Future}
 use Rattle.laid_types.specs.declared.layer.ValTypeLayer.{ValTypeLayer}
 use Rattle.laid_types.specs.declared.layer.ValTypeLayer.TheVariants as layer
 use Rattle.laid_types.specs.Layers.{AreThere, trees_of, tree_at, field_of, case_of, type_of, part_numbers, layer_labels}

@@ -1,7 +1,7 @@
 -- In a table in which each type stands once, a type has one key, a key is of one type, and both stay so as types are added.
 use Rattle.std.proofs.Common.{◌≡◌, ◌∙◌, ℕ, List, [], ◌∷◌, ◌++◌, ap, sym, refl, subst, Some, None, Option}
 use Rattle.std.specs.declared.cmp.Ordering.TheVariants.{Equal}
-use Rattle.ca_types.specs.declared.types.ValType.{ValType}
+use Rattle.syntax_trees.specs.declared.types.ValType.{ValType}
 use Rattle.laid_types.specs.Parts.{labels_of}
 use Rattle.laid_types.specs.Layers.{IsThere, AreThere, tree_of, trees_of, tree_at}
 use Rattle.laid_types.proofs.OfLayers.{there_tree}

@@ -9,7 +9,7 @@ use Rattle.std.specs.Ordering.{nat_cmp}
 use Rattle.std.proofs.lemmas.Map.Text.{btree_map_updates_str}
 use Rattle.std.proofs.lemmas.List.{length-map, map-append}
 use Rattle.std.proofs.lemmas.Slice.Eq.{bytes_eq-Decides}
-use Rattle.ca_base.specs.Names.{at_name}
+use Rattle.syntax_trees.specs.Names.{at_name}
 use Rattle.link_values.specs.Numbering.{Numbers}
 use Rattle.link_values.proofs.Numbered.{absent_of, numbers_more}
 

@@ -1,7 +1,7 @@
 -- What numbers tell.
 use Rattle.std.proofs.Common.{◌≡◌, ◌∙◌, ◌↔◌, ℕ, List, [], ◌∷◌, ap, sym, Some, Option, inl, inr}
 use Rattle.std.specs.List.{slice_get}
-use Rattle.ca_types.specs.declared.types.ValType.{ValType}
+use Rattle.syntax_trees.specs.declared.types.ValType.{ValType}
 use Rattle.link_values.specs.Numbering.{AreApart, IsAdded}
 use Rattle.link_values.proofs.Numbered.{stays_at}
 

@@ -3,7 +3,7 @@ use Rattle.std.specs.Prelude.{◌≡◌, ℕ, List, Option, Some}
 use Rattle.std.specs.declared.cmp.Ordering.{Ordering}
 use Rattle.std.specs.BTreeMap.{BTreeMap, get}
 use Rattle.std.specs.List.{slice_get}
-use Rattle.ca_types.specs.declared.types.ValType.{ValType}
+use Rattle.syntax_trees.specs.declared.types.ValType.{ValType}
 use Rattle.link_values.specs.declared.keys.ValueKey.{ValueKey}
 use Rattle.link_values.specs.contracts.keys.ValueKeyOrd.TheImpl as order
 use Rattle.link_values.specs.Keys.{IsKeyOf}

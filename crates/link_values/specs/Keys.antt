@@ -1,8 +1,8 @@
 -- What tells types of values apart (Component Model, Explainer.md, "Type Definitions"): the form of a type, the number of its resource's
 -- type, the list of its labels, by its number, and its parts, by their numbers among types.
 use Rattle.std.specs.Prelude.{◌≡◌, ℕ, List, Some}
-use Rattle.ca_types.specs.declared.types.ValType.{ValType, out-ValType}
-use Rattle.ca_types.specs.declared.types.ValType.TheOpen.{ValType-F}
+use Rattle.syntax_trees.specs.declared.types.ValType.{ValType, out-ValType}
+use Rattle.syntax_trees.specs.declared.types.ValType.TheOpen.{ValType-F}
 use Rattle.laid_types.specs.declared.layer.ValTypeLayer.{ValTypeLayer}
 use Rattle.laid_types.specs.declared.layer.ValTypeLayer.TheVariants as layer
 use Rattle.laid_types.specs.Parts.{parts_of, labels_of}

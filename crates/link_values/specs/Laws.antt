@@ -1,7 +1,7 @@
 -- What holds of tables of types (Component Model, Explainer.md, "Type Definitions") in which each type stands once.
 use Rattle.std.specs.Prelude.{◌≡◌, ◌↔◌, ℕ, List, Some}
 use Rattle.std.specs.List.{slice_get}
-use Rattle.ca_types.specs.declared.types.ValType.{ValType}
+use Rattle.syntax_trees.specs.declared.types.ValType.{ValType}
 use Rattle.link_values.specs.Numbering.{AreApart, IsAdded}
 
 -- Two types are the same exactly where their numbers are.

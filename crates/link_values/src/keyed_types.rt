@@ -1,7 +1,7 @@
 //! Types of values, each found by its key.
 
 ghost use Rattle.std.specs.Prelude.{◌≡◌, ◌∷◌, ◌++◌, [], length, None, Some, IfOk, OnOk, OnErr};
-ghost use Rattle.ca_types.specs.declared.types.ValType.{ValType};
+ghost use Rattle.syntax_trees.specs.declared.types.ValType.{ValType};
 ghost use Rattle.laid_types.specs.Layers.{AreThere, type_of, part_numbers, layer_labels};
 ghost use Rattle.link_values.specs.Keys.{IsKeyOf, IsKeyOfLayer};
 ghost use Rattle.link_values.specs.Labels.{list_number, texts};
@@ -25,7 +25,7 @@ pub(crate) struct KeyedTypes<'a> {
 
 impl<'a> Model for KeyedTypes<'a> {
     ghost use Rattle.std.specs.Coded.{codes};
-    ghost use Rattle.ca_types.specs.contracts.types.ValType as val_type;
+    ghost use Rattle.syntax_trees.specs.contracts.types.ValType as val_type;
     ghost use Rattle.link_values.specs.Keyed as keyed;
 
     ghost Value = { keyed.LabelledTypes };

@@ -2,7 +2,7 @@
 
 ghost use Rattle.std.specs.Prelude.{◌≡◌, true, false, None, Some};
 
-use ca_base::Name;
+use syntax_trees::Name;
 
 /// What a part of a type comes to, as it is written (Component Model, Explainer.md, "Type Definitions").
 #[derive(Clone, Copy)]

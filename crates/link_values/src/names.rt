@@ -19,7 +19,7 @@ pub struct Names<'a> {
 
 impl<'a> Model for Names<'a> {
     ghost use Rattle.std.specs.Prelude.{ℕ, List, map};
-    ghost use Rattle.ca_base.specs.Names.{at_name};
+    ghost use Rattle.syntax_trees.specs.Names.{at_name};
     ghost use Rattle.link_values.specs.Numbering.{Numbers};
 
     ghost Value = { List (List ℕ) };

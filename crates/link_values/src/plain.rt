@@ -1,12 +1,12 @@
 //! Types that have neither parts nor labels nor a resource.
 
 ghost use Rattle.std.specs.Prelude.{◌≡◌, ℕ, List, [], IfSome};
-ghost use Rattle.ca_types.specs.declared.types.ValType.{ValType};
+ghost use Rattle.syntax_trees.specs.declared.types.ValType.{ValType};
 ghost use Rattle.laid_types.specs.Layers.{type_of, part_numbers};
 ghost use Rattle.link_values.specs.Resources as resources;
 
-use ca_types::ValType;
 use laid_types::ValTypeLayer;
+use syntax_trees::ValType;
 
 /// The layer of a type that has neither parts nor labels nor a resource.
 pub fn plain_layer(val_type: &ValType) -> Option<ValTypeLayer<'static, 'static>>

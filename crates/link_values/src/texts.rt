@@ -2,8 +2,8 @@
 
 ghost use Rattle.std.specs.Prelude.{◌≡◌, map, IfOk};
 
-use ca_base::Name;
 use std::alloc::{AllocError, Global};
+use syntax_trees::Name;
 
 /// The texts of labels. It fails for want of memory alone.
 pub fn label_texts<'a>(alloc: Global, labels: &'a [Name]) -> Result<Vec<&'a str>, AllocError>

@@ -7,10 +7,10 @@ ghost use Rattle.link_values.specs.Numbering.{AreApart, IsAdded};
 
 use crate::keyed_types::KeyedTypes;
 use crate::keys::key_of;
-use ca_types::{Shared, ValType};
 use laid_types::{LaidType, LaidTypes, ValTypeLayer};
 use std::alloc::{AllocError, Global};
 use std::marker::Model;
+use syntax_trees::{Shared, ValType};
 
 /// Types of values (Component Model, Explainer.md, "Type Definitions"), each distinct one once, over earlier ones, with what is
 /// computed of each. A type's number is its place, so two types are the same exactly where their numbers are. Contracts see the
@@ -23,8 +23,8 @@ pub struct ValueTypes<'a> {
 impl<'a> Model for ValueTypes<'a> {
     ghost use Rattle.std.specs.Prelude.{List};
     ghost use Rattle.std.specs.Coded.{coded_list};
-    ghost use Rattle.ca_types.specs.declared.types.ValType.{ValType};
-    ghost use Rattle.ca_types.specs.contracts.types.ValType as val_type;
+    ghost use Rattle.syntax_trees.specs.declared.types.ValType.{ValType};
+    ghost use Rattle.syntax_trees.specs.contracts.types.ValType as val_type;
     ghost use Rattle.link_values.specs.Numbering.{AreApart};
 
     ghost Value = { List ValType };

@@ -1,13 +1,13 @@
 -- Alignments are at most 8.
 use Rattle.std.proofs.Common.{◌≡◌, ◌∙◌, ◌≤◌, ℕ, nat_le, if◌then◌else◌, List, [], ◌∷◌, map, length, Option, Some, None, ap, sym, subst, arith}
-use Rattle.ca_types.specs.declared.types.ValType.{ValType, roll-ValType}
-use Rattle.ca_types.specs.declared.types.Case.{Case}
-use Rattle.ca_types.specs.declared.types.Field.{Field}
-use Rattle.ca_types.specs.declared.types.ValType.TheOpen as F
-use Rattle.ca_types.specs.declared.types.ValType.TheViews.{roll-Case, roll-Field}
-use Rattle.ca_types.specs.declared.types.ValType.TheFolds.{ind-ValType, map-ValType, map-Case}
-use Rattle.ca_types.specs.Layout.{Laid, laid, laid_step, top_align, there, tag_size, bits_size}
-use Rattle.ca_types.proofs.Folds.{held}
+use Rattle.syntax_trees.specs.declared.types.ValType.{ValType, roll-ValType}
+use Rattle.syntax_trees.specs.declared.types.Case.{Case}
+use Rattle.syntax_trees.specs.declared.types.Field.{Field}
+use Rattle.syntax_trees.specs.declared.types.ValType.TheOpen as F
+use Rattle.syntax_trees.specs.declared.types.ValType.TheViews.{roll-Case, roll-Field}
+use Rattle.syntax_trees.specs.declared.types.ValType.TheFolds.{ind-ValType, map-ValType, map-Case}
+use Rattle.laid_types.specs.Layout.{Laid, laid, laid_step, top_align, there, tag_size, bits_size}
+use Rattle.syntax_trees.proofs.Folds.{held}
 use Rattle.wasm_store.proofs.Lists.{if_both}
 use Rattle.value_lift.proofs.Equations.{layouts_in, laid_is}
 use Rattle.value_lift.proofs.TypesFound.{out_of_roll}

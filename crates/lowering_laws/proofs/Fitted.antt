@@ -5,22 +5,22 @@ use Rattle.std.specs.Prelude.{◌==◌, if◌then◌else◌, IsTrue, FitsSigned}
 use Rattle.std.specs.List.{slice_get}
 use Rattle.std.specs.Int.{w8, w16, w32, w64}
 use Rattle.std.specs.Str.{IsUtf8}
-use Rattle.ca_types.specs.declared.types.ValType.{ValType, out-ValType, roll-ValType}
-use Rattle.ca_types.specs.declared.types.Case.{Case}
-use Rattle.ca_types.specs.declared.types.Field.{Field}
-use Rattle.ca_types.specs.declared.types.ValType.TheOpen as F
-use Rattle.ca_types.specs.declared.types.ValType.TheViews as types
-use Rattle.ca_types.specs.declared.types.ValType.TheViews.{roll-out-ValType}
-use Rattle.ca_types.specs.declared.types.ValType.TheVariants as leaves
-use Rattle.ca_types.specs.declared.types.ValType.TheFolds.{map-ValType}
-use Rattle.ca_types.specs.declared.value.Handle.{Handle}
-use Rattle.ca_types.specs.declared.value.Value.{Value, out-Value}
-use Rattle.ca_types.specs.declared.value.Value.TheOpen as V
-use Rattle.ca_types.specs.declared.value.Value.TheViews as values
-use Rattle.ca_types.specs.declared.value.Value.TheViews.{the_lemmas}
-use Rattle.ca_types.specs.declared.value.Value.TheVariants as plain
-use Rattle.ca_types.specs.Fits.{Test, fits, test_of, fits_step, fits_case, fits_field, each_passes, all_pass, payload_passes, case_passes, is_bool, is_s8, is_u8, is_s16, is_u16, is_s32, is_u32, is_s64, is_u64, is_char, is_string, is_stream, is_future, is_own, is_borrow, is_record, is_list, is_variant, is_enum, is_either, is_flags}
-use Rattle.ca_types.proofs.Folds.{held, fold_case, fold_field}
+use Rattle.syntax_trees.specs.declared.types.ValType.{ValType, out-ValType, roll-ValType}
+use Rattle.syntax_trees.specs.declared.types.Case.{Case}
+use Rattle.syntax_trees.specs.declared.types.Field.{Field}
+use Rattle.syntax_trees.specs.declared.types.ValType.TheOpen as F
+use Rattle.syntax_trees.specs.declared.types.ValType.TheViews as types
+use Rattle.syntax_trees.specs.declared.types.ValType.TheViews.{roll-out-ValType}
+use Rattle.syntax_trees.specs.declared.types.ValType.TheVariants as leaves
+use Rattle.syntax_trees.specs.declared.types.ValType.TheFolds.{map-ValType}
+use Rattle.syntax_trees.specs.declared.value.Handle.{Handle}
+use Rattle.syntax_trees.specs.declared.value.Value.{Value, out-Value}
+use Rattle.syntax_trees.specs.declared.value.Value.TheOpen as V
+use Rattle.syntax_trees.specs.declared.value.Value.TheViews as values
+use Rattle.syntax_trees.specs.declared.value.Value.TheViews.{the_lemmas}
+use Rattle.syntax_trees.specs.declared.value.Value.TheVariants as plain
+use Rattle.syntax_trees.specs.Fits.{Test, fits, test_of, fits_step, fits_case, fits_field, each_passes, all_pass, payload_passes, case_passes, is_bool, is_s8, is_u8, is_s16, is_u16, is_s32, is_u32, is_s64, is_u64, is_char, is_string, is_stream, is_future, is_own, is_borrow, is_record, is_list, is_variant, is_enum, is_either, is_flags}
+use Rattle.syntax_trees.proofs.Folds.{held, fold_case, fold_field}
 use Rattle.value_lower.specs.Lowering.{bits_of}
 use Rattle.value_lift.specs.Bytes.{is_scalar}
 use Rattle.value_lift.proofs.Layers.{by_layer}

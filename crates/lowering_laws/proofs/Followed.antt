@@ -5,15 +5,15 @@ use Rattle.value_lower.specs.Following.{Rooms, Came, Words, Failed, Ended}
 use Rattle.lowering_laws.specs.Settling.{Answer, Settles}
 use Rattle.lowering_laws.specs.ValueRooms.{FollowedOver, FollowedSettle, Leaves, StoredStand, ListsStand, PlacedStand, LoweredStand, LoweredAreTyped, PlacedAreTyped}
 use Rattle.lowering_laws.specs.Values.{AllInRange, none_in, more_in, AllAre, none_are, more_are}
-use Rattle.ca_types.specs.declared.types.ValType.{ValType}
-use Rattle.ca_types.specs.declared.value.Value.{Value}
+use Rattle.syntax_trees.specs.declared.types.ValType.{ValType}
+use Rattle.syntax_trees.specs.declared.value.Value.{Value}
 use Rattle.value_lower.specs.Fitting.{AllFit}
 use Rattle.lowering_laws.specs.ApartPlaces.{Region, Apart}
 use Rattle.lowering_laws.specs.ValueLaws.{target, list_target, IsPlaced}
 use Rattle.value_lower.specs.Lowering.{stored, all_stored, placed, flat_lowered}
 use Rattle.value_lift.specs.Stored.{IsStored, AreStored, IsFlattened}
-use Rattle.ca_types.specs.declared.core_type.CoreType.TheVariants.{I32}
-use Rattle.ca_types.specs.Flat.{flat}
+use Rattle.syntax_trees.specs.declared.core_type.CoreType.TheVariants.{I32}
+use Rattle.syntax_trees.specs.Flat.{flat}
 use Rattle.value_lower.proofs.Giving.{given}
 use Rattle.value_lift.specs.WordStanding.{AreWords}
 use Rattle.lowering_laws.proofs.Fitted.{fitted}

@@ -2,8 +2,8 @@
 use Rattle.std.proofs.Common.{◌≡◌, ◌≤◌, ◌<◌, ◌+◌, ◌%◌, ◌^◌, ℕ, ℤ, zero, suc, List, [], ◌∷◌, ◌++◌, length, replicate, refl, ap₂, subst, arith, mod-eq_of_lt, append_assoc}
 use Rattle.std.specs.Prelude.{pos, negsuc, FitsSigned}
 use Rattle.std.specs.Int.{w8, w16, w32, cast_unsigned}
-use Rattle.ca_types.specs.declared.core_type.CoreType.{CoreType}
-use Rattle.ca_types.specs.declared.core_type.CoreType.TheVariants.{I32, I64}
+use Rattle.syntax_trees.specs.declared.core_type.CoreType.{CoreType}
+use Rattle.syntax_trees.specs.declared.core_type.CoreType.TheVariants.{I32, I64}
 use Rattle.value_lower.specs.Plan.{Plan}
 use Rattle.value_lower.specs.Lowering.{asked}
 use Rattle.value_lift.specs.WordStanding.{AreWords, wrapped}

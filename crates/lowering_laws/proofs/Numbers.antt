@@ -8,7 +8,7 @@ use Rattle.std.proofs.Math.Pow.{pow_mono}
 use Rattle.std.specs.Prelude.{nat_le, IsTrue, FitsSigned}
 use Rattle.std.specs.Int.{Width, w8, w16, w32, w64, byte_len, from_le_bytes, to_le_bytes, cast_signed, cast_unsigned}
 use mir.Val.{bits}
-use Rattle.ca_types.specs.Layout.{tag_size, bits_size}
+use Rattle.laid_types.specs.Layout.{tag_size, bits_size}
 use Rattle.value_lower.specs.Plan.{Put}
 use Rattle.value_lower.specs.Lowering.{bits_of, pointed, number_bytes}
 use Rattle.value_lift.specs.Bytes.{number, bytes_at, width_of, is_scalar}

@@ -2,10 +2,10 @@
 use Rattle.std.proofs.Common.{◌≡◌, ◌+◌, ℕ, Bool, true, false, if◌then◌else◌, nat_le, List, [], ◌∷◌, length, map, refl, ◌∙◌, subst, Option, Some, None, ◌*◌}
 use Rattle.std.specs.List.{slice_get, AllByRecursion}
 use Rattle.std.specs.Option.{option_map}
-use Rattle.wasm_module.specs.declared.module.ElementSegment.{ElementSegment}
-use Rattle.wasm_module.specs.declared.module.DataSegment.{DataSegment}
-use Rattle.wasm_module.specs.declared.module.ModuleTree.{ModuleTree}
-use Rattle.wasm_module.specs.declared.types.Limits.{Limits}
+use Rattle.syntax_trees.specs.declared.module.ElementSegment.{ElementSegment}
+use Rattle.syntax_trees.specs.declared.module.DataSegment.{DataSegment}
+use Rattle.syntax_trees.specs.declared.module.ModuleTree.{ModuleTree}
+use Rattle.syntax_trees.specs.declared.module_types.Limits.{Limits}
 use Rattle.wasm_typing.specs.Modules.{Typed, ElementTyped}
 use Rattle.wasm_memory.specs.Bytes.{is_inside, put}
 use Rattle.wasm_memory.specs.Memories.{MemoryState, with_bytes}

@@ -1,12 +1,12 @@
 -- Every value of a type that is stored stands.
 use Rattle.std.proofs.Common.{◌≡◌, ◌≤◌, ◌+◌, ◌-◌, ◌*◌, ℕ, suc, List, [], ◌∷◌, map, length, Option, Some, None, refl, sym, subst, arith, suc-mul}
-use Rattle.ca_types.specs.declared.types.ValType.{ValType}
-use Rattle.ca_types.specs.declared.types.Field.{Field}
-use Rattle.ca_types.specs.declared.types.ValType.TheOpen as F
-use Rattle.ca_types.specs.declared.types.ValType.TheViews as types
-use Rattle.ca_types.specs.declared.types.ValType.TheVariants as leaves
-use Rattle.ca_types.specs.declared.value.Value.{Value}
-use Rattle.ca_types.specs.Layout.{laid, aligned}
+use Rattle.syntax_trees.specs.declared.types.ValType.{ValType}
+use Rattle.syntax_trees.specs.declared.types.Field.{Field}
+use Rattle.syntax_trees.specs.declared.types.ValType.TheOpen as F
+use Rattle.syntax_trees.specs.declared.types.ValType.TheViews as types
+use Rattle.syntax_trees.specs.declared.types.ValType.TheVariants as leaves
+use Rattle.syntax_trees.specs.declared.value.Value.{Value}
+use Rattle.laid_types.specs.Layout.{laid, aligned}
 use Rattle.value_lower.specs.Lowering.{lowered, store, elements_from, fields_from}
 use Rattle.value_lift.specs.Room.{end_behind}
 use Rattle.value_lift.specs.Standing.{Stands, AreElements, AreFields, IsPayload, no_elements, more_elements, no_fields, more_fields, no_payload, payload_stands, record_stands, tuple_stands, case_stands, enum_stands, none_stands, some_stands, ok_stands, err_stands}

@@ -1,8 +1,8 @@
 -- What was stored stands at its place.
 use Rattle.std.proofs.Common.{◌≡◌, ◌∙◌, ◌≤◌, ◌<◌, ◌+◌, ◌*◌, ℕ, List, [], ◌∷◌, map, length, get_or, refl, ap, sym, subst, arith, inl, inr}
-use Rattle.ca_types.specs.declared.types.ValType.{ValType}
-use Rattle.ca_types.specs.declared.value.Value.{Value}
-use Rattle.ca_types.specs.Layout.{laid}
+use Rattle.syntax_trees.specs.declared.types.ValType.{ValType}
+use Rattle.syntax_trees.specs.declared.value.Value.{Value}
+use Rattle.laid_types.specs.Layout.{laid}
 use Rattle.value_lower.specs.Plan.{Plan, Gives}
 use Rattle.value_lower.specs.Lowering.{lowered, store, stored, all_stored, placed, flat_lowered, elements_from}
 use Rattle.value_lift.specs.Standing.{Stands, AreElements}

@@ -1,7 +1,7 @@
 -- Stores that go on, and calls of their functions.
 use Rattle.std.proofs.Common.{◌≡◌, ℕ, List, Some, sym, subst}
 use Rattle.std.specs.List.{slice_get}
-use Rattle.wasm_module.specs.declared.types.FuncType as core
+use Rattle.syntax_trees.specs.declared.module_types.FuncType as core
 use Rattle.wasm_numbers.specs.Types.{AreWords}
 use Rattle.wasm_store.specs.Store.{Function, type_of, Store}
 use Rattle.wasm_store.specs.Step.{start}

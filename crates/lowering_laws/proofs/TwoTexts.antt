@@ -1,13 +1,13 @@
 -- The runs of the examples.
 use Rattle.std.proofs.Common.{◌≡◌, ◌∙◌, ◌≤◌, ◌<◌, ◌+◌, ℕ, List, [], ◌∷◌, replicate, refl, ap, sym, subst, arith, inl, inr}
-use Rattle.ca_types.specs.declared.types.ValType.TheOpen as F
-use Rattle.ca_types.specs.declared.types.ValType.{ValType}
-use Rattle.ca_types.specs.declared.types.Case.{Case}
-use Rattle.ca_types.specs.declared.types.Field.{Field}
-use Rattle.ca_types.specs.declared.types.ValType.TheVariants as leaves
-use Rattle.ca_types.specs.declared.value.Value.TheOpen as V
-use Rattle.ca_types.specs.declared.value.Value.TheVariants as plain
-use Rattle.ca_types.specs.Layout.{Laid, laid, laid_step}
+use Rattle.syntax_trees.specs.declared.types.ValType.TheOpen as F
+use Rattle.syntax_trees.specs.declared.types.ValType.{ValType}
+use Rattle.syntax_trees.specs.declared.types.Case.{Case}
+use Rattle.syntax_trees.specs.declared.types.Field.{Field}
+use Rattle.syntax_trees.specs.declared.types.ValType.TheVariants as leaves
+use Rattle.syntax_trees.specs.declared.value.Value.TheOpen as V
+use Rattle.syntax_trees.specs.declared.value.Value.TheVariants as plain
+use Rattle.laid_types.specs.Layout.{Laid, laid, laid_step}
 use Rattle.value_lower.specs.Plan.{Plan, Gives}
 use Rattle.value_lower.specs.Lowering.{store, stored, tested, text_in, pointed}
 use Rattle.value_lift.proofs.Equations.{layouts_in, laid_is}

@@ -1,10 +1,10 @@
 -- What is lifted is of its type (Component Model, CanonicalABI.md, "Loading", "Flat Lifting"): a value that stands in a memory of bytes,
 -- or for which core values stand, fits its type and is in its ranges.
 use Rattle.std.specs.Prelude.{◌≡◌, ℕ, true, List, length, Ok}
-use Rattle.ca_types.specs.declared.types.ValType.{ValType}
-use Rattle.ca_types.specs.declared.value.Value.{Value}
-use Rattle.ca_types.specs.Fits.{fits}
-use Rattle.ca_types.specs.Flat.{flat}
+use Rattle.syntax_trees.specs.declared.types.ValType.{ValType}
+use Rattle.syntax_trees.specs.declared.value.Value.{Value}
+use Rattle.syntax_trees.specs.Fits.{fits}
+use Rattle.syntax_trees.specs.Flat.{flat}
 use Rattle.value_lift.specs.declared.counting.LiftOf.{LiftOf}
 use Rattle.value_lift.specs.Lifting.{load, load_list, lift_flat}
 use Rattle.value_lift.specs.Standing.{Stands, AreElements}

@@ -1,7 +1,7 @@
 -- Bytes of modules and of stores (Core 2.0, "Data Instances", "Memory Instances"): what a module puts into its memories, and what stands
 -- in the memories of a store.
 use Rattle.std.specs.List.{AllByRecursion}
-use Rattle.wasm_module.specs.declared.module.ModuleTree.{ModuleTree}
+use Rattle.syntax_trees.specs.declared.module.ModuleTree.{ModuleTree}
 use Rattle.wasm_store.specs.Store.{Store}
 use Rattle.lowering_laws.specs.Values.{AreBytes}
 

@@ -1,7 +1,7 @@
 -- A text that is stored in a memory of 16 bytes, over an answer that lies apart and over one that does not.
 use Rattle.std.specs.Prelude.{ℕ, List, [], ◌∷◌, replicate}
-use Rattle.ca_types.specs.declared.types.ValType.TheVariants as leaves
-use Rattle.ca_types.specs.declared.value.Value.TheVariants as plain
+use Rattle.syntax_trees.specs.declared.types.ValType.TheVariants as leaves
+use Rattle.syntax_trees.specs.declared.value.Value.TheVariants as plain
 use Rattle.value_lower.specs.Plan.{Plan}
 use Rattle.value_lower.specs.Lowering.{stored}
 use Rattle.lowering_laws.specs.Settling.{Answer, Settles}

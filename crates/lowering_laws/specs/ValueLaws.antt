@@ -1,15 +1,15 @@
 -- What holds of what is lowered (Component Model, CanonicalABI.md, "Storing", "Flat Lowering"): where places lie apart it stands, and
 -- so it is what is loaded and lifted; and what lies beside is left alone.
 use Rattle.std.specs.Prelude.{◌≡◌, ◌≤◌, ◌<◌, ◌*◌, ◌^◌, ℕ, true, List, [], ◌∷◌, map, length, Ok}
-use Rattle.ca_types.specs.declared.types.ValType.{ValType}
-use Rattle.ca_types.specs.declared.value.Value.{Value}
-use Rattle.ca_types.specs.Fits.{fits}
-use Rattle.ca_types.specs.Layout.{laid}
+use Rattle.syntax_trees.specs.declared.types.ValType.{ValType}
+use Rattle.syntax_trees.specs.declared.value.Value.{Value}
+use Rattle.syntax_trees.specs.Fits.{fits}
+use Rattle.laid_types.specs.Layout.{laid}
 use Rattle.value_lift.specs.declared.counting.LiftOf.{LiftOf}
 use Rattle.value_lift.specs.Lifting.{load, load_list, lift_flat, most}
 use Rattle.value_lift.specs.Standing.{total, counts}
-use Rattle.ca_types.specs.declared.core_type.CoreType.TheVariants.{I32}
-use Rattle.ca_types.specs.Flat.{flat}
+use Rattle.syntax_trees.specs.declared.core_type.CoreType.TheVariants.{I32}
+use Rattle.syntax_trees.specs.Flat.{flat}
 use Rattle.value_lift.specs.WordStanding.{AreWords}
 use Rattle.value_lift.specs.Stored.{IsStored, AreStored, IsFlattened}
 use Rattle.value_lower.specs.Lowering.{stored, all_stored, placed, flat_lowered}

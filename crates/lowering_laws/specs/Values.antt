@@ -6,15 +6,15 @@ use Rattle.std.specs.List.{slice_get, AllByRecursion}
 use Rattle.std.specs.Int.{w8, w16, w32, w64}
 use Rattle.std.specs.Prelude.{FitsSigned}
 use Rattle.std.specs.Str.{IsUtf8}
-use Rattle.ca_types.specs.declared.types.ValType.{ValType}
-use Rattle.ca_types.specs.declared.types.Field.{Field}
-use Rattle.ca_types.specs.declared.types.Case.{Case}
-use Rattle.ca_types.specs.declared.types.ValType.TheViews as types
-use Rattle.ca_types.specs.declared.types.ValType.TheVariants as leaves
-use Rattle.ca_types.specs.declared.value.Handle.{Handle}
-use Rattle.ca_types.specs.declared.value.Value.{Value}
-use Rattle.ca_types.specs.declared.value.Value.TheViews as values
-use Rattle.ca_types.specs.declared.value.Value.TheVariants as plain
+use Rattle.syntax_trees.specs.declared.types.ValType.{ValType}
+use Rattle.syntax_trees.specs.declared.types.Field.{Field}
+use Rattle.syntax_trees.specs.declared.types.Case.{Case}
+use Rattle.syntax_trees.specs.declared.types.ValType.TheViews as types
+use Rattle.syntax_trees.specs.declared.types.ValType.TheVariants as leaves
+use Rattle.syntax_trees.specs.declared.value.Handle.{Handle}
+use Rattle.syntax_trees.specs.declared.value.Value.{Value}
+use Rattle.syntax_trees.specs.declared.value.Value.TheViews as values
+use Rattle.syntax_trees.specs.declared.value.Value.TheVariants as plain
 use Rattle.value_lower.specs.Lowering.{bits_of}
 use Rattle.value_lift.specs.Bytes.{is_scalar}
 

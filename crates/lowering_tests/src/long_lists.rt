@@ -2,11 +2,11 @@
 
 use crate::lowering::all_stored;
 use crate::scripted::ScriptedRoom;
-use ca_base::MemoryOr;
-use ca_types::{Value, Values};
+use faults::MemoryOr;
 use laid_types::LaidType;
 use std::alloc::{AllocError, Global};
 use std::test::Fail;
+use syntax_trees::{Value, Values};
 use table_texts::{holds, number};
 use value_lift::load_list_bare;
 

@@ -1,11 +1,11 @@
 //! What is lowered, as text.
 
 use crate::scripted::ScriptedRoom;
-use ca_types::Value;
 use laid_types::LaidType;
 use std::alloc::Global;
 use std::fmt::Write;
 use std::test::Fail;
+use syntax_trees::Value;
 use table_texts::{may_all_lower, may_lower};
 use value_lower::{
     LowerError, RoomEnd, Words, lower_flat_bare, lower_placed_bare, store_bare, store_list_bare,

@@ -1,19 +1,19 @@
 -- Characters by their outer layer: what folds over types and values give of them.
 use Rattle.std.proofs.Common.{◌≡◌, ◌∙◌, ℕ, Bool, true, List, [], ◌∷◌, Option, ap, sym}
-use Rattle.ca_types.specs.declared.core_type.CoreType.{CoreType}
-use Rattle.ca_types.specs.declared.core_type.CoreType.TheVariants.{I32}
-use Rattle.ca_types.specs.declared.types.ValType.{ValType, out-ValType}
-use Rattle.ca_types.specs.declared.types.Case.{Case}
-use Rattle.ca_types.specs.declared.types.Field.{Field}
-use Rattle.ca_types.specs.declared.types.ValType.TheOpen as F
-use Rattle.ca_types.specs.declared.types.ValType.TheVariants as leaves
-use Rattle.ca_types.specs.declared.types.ValType.TheViews.{out-roll-ValType}
-use Rattle.ca_types.specs.declared.types.ValType.TheFolds.{fold-roll-ValType}
-use Rattle.ca_types.specs.declared.value.Value.TheOpen as V
-use Rattle.ca_types.specs.declared.value.Value.TheVariants as plain
-use Rattle.ca_types.specs.declared.value.Value.TheFolds.{fold-roll-Value}
-use Rattle.ca_types.specs.Layout.{Laid, laid, laid_step, laid_case, laid_field}
-use Rattle.ca_types.specs.Flat.{flat, flat_step, flat_case, flat_field}
+use Rattle.syntax_trees.specs.declared.core_type.CoreType.{CoreType}
+use Rattle.syntax_trees.specs.declared.core_type.CoreType.TheVariants.{I32}
+use Rattle.syntax_trees.specs.declared.types.ValType.{ValType, out-ValType}
+use Rattle.syntax_trees.specs.declared.types.Case.{Case}
+use Rattle.syntax_trees.specs.declared.types.Field.{Field}
+use Rattle.syntax_trees.specs.declared.types.ValType.TheOpen as F
+use Rattle.syntax_trees.specs.declared.types.ValType.TheVariants as leaves
+use Rattle.syntax_trees.specs.declared.types.ValType.TheViews.{out-roll-ValType}
+use Rattle.syntax_trees.specs.declared.types.ValType.TheFolds.{fold-roll-ValType}
+use Rattle.syntax_trees.specs.declared.value.Value.TheOpen as V
+use Rattle.syntax_trees.specs.declared.value.Value.TheVariants as plain
+use Rattle.syntax_trees.specs.declared.value.Value.TheFolds.{fold-roll-Value}
+use Rattle.laid_types.specs.Layout.{Laid, laid, laid_step, laid_case, laid_field}
+use Rattle.syntax_trees.specs.Flat.{flat, flat_step, flat_case, flat_field}
 use Rattle.abi_machine.specs.SameTypes.{same_layer, same_step, same_case, same_field, same_val}
 use Rattle.abi_machine.specs.LiftingOver.{Ledger, Part, CasePart, FieldPart, case_by, field_by, part_step, part}
 use Rattle.abi_machine.specs.LoweringOver.{New, Plan, Lowered, lower_step, lowered}

@@ -1,7 +1,7 @@
 -- Calls that are not waited for (Component Model, CanonicalABI.md, `canon lower`, `canon subtask.cancel`, `canon subtask.drop`, `canon lift`,
 -- "Subtask State"): task 1 calls a function of its child, which lets others run before it returns.
 use Rattle.std.specs.Prelude.{ℕ, true, false, List, [], ◌∷◌, ◌++◌, replicate, Some, None}
-use Rattle.wasm_module.specs.Expr.{Expr, End}
+use Rattle.syntax_trees.specs.Expr.{Expr, End}
 use Rattle.builtin_kinds.specs.declared.ContextOp.TheVariants.{Set}
 use Rattle.builtin_kinds.specs.declared.PlainBuiltin.TheVariants as op
 use Rattle.builtin_kinds.specs.declared.WaitOp.TheVariants.{Poll}

@@ -1,7 +1,7 @@
 -- What a cancellation that is asked comes to (Component Model, Concurrency.md, "Cancellation"; CanonicalABI.md, `canon yield`, `canon
 -- waitable-set.wait`, `canon task.cancel`): it is told where a task asks next, or at once, or never.
 use Rattle.std.specs.Prelude.{ℕ, true, false, List, [], ◌∷◌, ◌++◌, replicate, codes, None}
-use Rattle.wasm_module.specs.Expr.{Expr, End}
+use Rattle.syntax_trees.specs.Expr.{Expr, End}
 use Rattle.builtin_kinds.specs.declared.PlainBuiltin.TheVariants as op
 use Rattle.builtin_kinds.specs.declared.WaitOp.TheVariants.{Wait}
 use Rattle.builtin_kinds.specs.declared.EndKind.TheVariants.{Stream}

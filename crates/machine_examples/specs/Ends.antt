@@ -1,7 +1,7 @@
 -- Ends that others see (Component Model, CanonicalABI.md, "Stream State", "Waitable Set State", `canon stream.{read,write}`, `canon
 -- stream.cancel-{read,write}`, `canon stream.drop-{readable,writable}`): of a stream whose elements hold nothing.
 use Rattle.std.specs.Prelude.{ℕ, false, List, [], ◌∷◌, ◌++◌, replicate, codes, None}
-use Rattle.wasm_module.specs.Expr.{Expr, End}
+use Rattle.syntax_trees.specs.Expr.{Expr, End}
 use Rattle.builtin_kinds.specs.declared.PlainBuiltin.TheVariants as op
 use Rattle.builtin_kinds.specs.declared.WaitOp.TheVariants.{Poll}
 use Rattle.builtin_kinds.specs.declared.EndKind.TheVariants.{Stream}

@@ -1,7 +1,7 @@
 -- What runs out (Component Model, CanonicalABI.md, `canon backpressure.{inc,dec}`; Concurrency.md, "Summary"): backpressure, and fuel where a
 -- choice, which costs nothing, comes before what costs.
 use Rattle.std.specs.Prelude.{List, [], ◌∷◌, ◌++◌}
-use Rattle.wasm_module.specs.Expr.{End}
+use Rattle.syntax_trees.specs.Expr.{End}
 use Rattle.builtin_kinds.specs.declared.PlainBuiltin.TheVariants as op
 use Rattle.comp_graph.specs.Graph.{Graph}
 use Rattle.script_reader.specs.Script.{Script}

@@ -1,11 +1,11 @@
 -- What passes from one task to another (Component Model, CanonicalABI.md, `canon stream.{read,write}`, "Storing", `lift_stream`, `canon
 -- task.return`, `canon lower`, "Subtask State"): for whom code runs, in which order is tested, and what comes back.
 use Rattle.std.specs.Prelude.{false, List, [], ◌∷◌, ◌++◌, replicate, codes, Some, None}
-use Rattle.wasm_module.specs.Expr.{Expr, End}
-use Rattle.ca_types.specs.declared.types.ValType.TheVariants.{U8, U32, Char, String}
-use Rattle.ca_types.specs.declared.types.ValType.TheViews as types
-use Rattle.ca_types.specs.declared.types.ValType.TheVariants as leaf
-use Rattle.ca_types.specs.declared.value.Value.TheVariants as value
+use Rattle.syntax_trees.specs.Expr.{Expr, End}
+use Rattle.syntax_trees.specs.declared.types.ValType.TheVariants.{U8, U32, Char, String}
+use Rattle.syntax_trees.specs.declared.types.ValType.TheViews as types
+use Rattle.syntax_trees.specs.declared.types.ValType.TheVariants as leaf
+use Rattle.syntax_trees.specs.declared.value.Value.TheVariants as value
 use Rattle.builtin_kinds.specs.declared.ContextOp.TheVariants as context_op
 use Rattle.builtin_kinds.specs.declared.ResourceOp.TheVariants.{New, Drop}
 use Rattle.builtin_kinds.specs.declared.PlainBuiltin.TheVariants as op

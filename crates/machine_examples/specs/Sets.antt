@@ -1,8 +1,8 @@
 -- Sets on which a task waits (Component Model, CanonicalABI.md, "Waitable Set State", `canon waitable-set.wait`, `canon waitable-set.drop`,
 -- `canon lift`), and how many sets a table holds.
 use Rattle.std.specs.Prelude.{◌≡◌, ◌<◌, ℕ, suc, List, [], ◌∷◌, ◌++◌, replicate, codes}
-use Rattle.wasm_module.specs.Expr.{Expr, End}
-use Rattle.wasm_module.specs.declared.types.FuncType as core
+use Rattle.syntax_trees.specs.Expr.{Expr, End}
+use Rattle.syntax_trees.specs.declared.module_types.FuncType as core
 use Rattle.handle_table.specs.History.{most_live}
 use Rattle.builtin_kinds.specs.declared.PlainBuiltin.TheVariants as op
 use Rattle.builtin_kinds.specs.declared.WaitOp.TheVariants.{Wait}

@@ -2,8 +2,8 @@
 -- Where a write fails, or memory is wanting, the sink has taken some front of the text so far.
 use Rattle.std.specs.Prelude.{◌≡◌, ◌⊎◌, ℕ, ◌≤◌, Bool, if◌then◌else◌, List, [], ◌++◌, take, Option, Some, None, Result, Ok, Err}
 use Rattle.std.specs.Option.{option_map}
-use Rattle.ca_base.specs.declared.memory.MemoryOr.{MemoryOr}
-use Rattle.ca_base.specs.declared.memory.MemoryOr.TheVariants as or
+use Rattle.faults.specs.declared.memory.MemoryOr.{MemoryOr}
+use Rattle.faults.specs.declared.memory.MemoryOr.TheVariants as or
 use Rattle.ca_io.specs.Bytes.{grown, TookFront}
 use Rattle.ca_io.specs.Causes.{Rose}
 use Rattle.programs.specs.declared.program.Program.{Program}

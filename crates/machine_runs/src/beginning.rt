@@ -4,13 +4,15 @@ ghost use Rattle.std.specs.Prelude.{◌≡◌, ◌∷◌, [], IfOk};
 ghost use Rattle.world_parts.specs.Held.{held};
 ghost use Rattle.machine_runs.specs.Beginning.{first_slot, first_held, first_piles};
 
-use ca_base::{Fuel, Memory, Seq};
+use ca_base::Fuel;
 use canon_hosts::first_store;
 use choices::Picks;
 use comp_graph::Graph;
 use entry_gate::Kind;
+use faults::Memory;
 use script_reader::Script;
 use std::alloc::Global;
+use syntax_trees::Seq;
 use task_table::{Callee, Caller, TaskSlot, Tasks};
 use tasks::TaskEvent;
 use world_parts::{Feed, Parts, Rest};

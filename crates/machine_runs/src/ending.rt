@@ -5,9 +5,10 @@ ghost use Rattle.world_parts.specs.Held.{held};
 ghost use Rattle.machine_runs.specs.Moving.{acting_of};
 ghost use Rattle.machine_runs.specs.Worlds.{free_line, trap_line, fuel_line};
 
-use ca_base::{Memory, Seq};
+use faults::Memory;
 use std::alloc::Global;
 use std::collections::BTreeSet;
+use syntax_trees::Seq;
 use trace_labels::{Label, TrapName};
 use world_parts::Parts;
 

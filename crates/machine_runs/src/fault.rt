@@ -3,8 +3,8 @@
 ghost use Rattle.std.specs.Prelude.{◌≡◌};
 ghost use Rattle.machine_runs.specs.Playing.{put_fault};
 
-use ca_base::{Memory, MemoryOr};
 use ca_io::Failed;
+use faults::{Memory, MemoryOr};
 use std::alloc::AllocError;
 use thiserror::Error;
 

@@ -6,8 +6,6 @@ ghost use Rattle.world_stacks.specs.Over.{Leads};
 ghost use Rattle.machine_runs.specs.Turning.{has_item, call_by, call_of, item_done, next_item_taken, turned_so, turns};
 
 use crate::following::add_pile;
-use ca_base::Name;
-use ca_types::Export;
 use comp_graph::{Graph, Lift};
 use event_replies::able;
 use graph_views::kind_of;
@@ -15,6 +13,7 @@ use programs::{CallNumbers, Program, typed_values};
 use replies::{cancel_call, take_call};
 use script_reader::{Call, Item};
 use std::alloc::Global;
+use syntax_trees::{Export, Name};
 use world_parts::{Flow, Part, Parts, Stop, Turned};
 use world_stacks::Stacks;
 

@@ -9,12 +9,13 @@ ghost use Rattle.machine_runs.specs.Worlds.{point_of, first_point, handed_on};
 
 use crate::beginning::{first_parts, first_stacks};
 use crate::stepping::{Step, make_step};
-use ca_base::{Memory, Seq};
 use comp_graph::Graph;
+use faults::Memory;
 use programs::Program;
 use script_reader::Script;
 use std::alloc::Global;
 use std::mem;
+use syntax_trees::Seq;
 use trace_labels::Label;
 use value_parts::{PassesValues, Passing};
 use world_parts::{Part, Parts};

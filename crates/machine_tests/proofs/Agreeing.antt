@@ -1,9 +1,9 @@
 -- Execution and validation say the same, instruction by instruction.
 use Rattle.std.proofs.Common.{refl}
-use Rattle.wasm_module.specs.declared.instr.Width.TheVariants.{W32, W64}
-use Rattle.wasm_module.specs.declared.instr.NumericOp.TheVariants.{Eqz, Relation, Unary, Binary, WrapI64, ExtendI32S, ExtendI32U, I64Extend32S}
-use Rattle.wasm_module.specs.declared.instr.LoadOp.TheVariants.{I32Load, I64Load, I32Load8S, I32Load8U, I32Load16S, I32Load16U, I64Load8S, I64Load8U, I64Load16S, I64Load16U, I64Load32S, I64Load32U}
-use Rattle.wasm_module.specs.declared.instr.StoreOp.TheVariants.{I32Store, I64Store, I32Store8, I32Store16, I64Store8, I64Store16, I64Store32}
+use Rattle.syntax_trees.specs.declared.instr.Width.TheVariants.{W32, W64}
+use Rattle.syntax_trees.specs.declared.instr.NumericOp.TheVariants.{Eqz, Relation, Unary, Binary, WrapI64, ExtendI32S, ExtendI32U, I64Extend32S}
+use Rattle.syntax_trees.specs.declared.instr.LoadOp.TheVariants.{I32Load, I64Load, I32Load8S, I32Load8U, I32Load16S, I32Load16U, I64Load8S, I64Load8U, I64Load16S, I64Load16U, I64Load32S, I64Load32U}
+use Rattle.syntax_trees.specs.declared.instr.StoreOp.TheVariants.{I32Store, I64Store, I32Store8, I32Store16, I64Store8, I64Store16, I64Store32}
 use Rattle.machine_tests.specs.Agreement.{NumericTypesAgree, LoadsAgree, StoresAgree}
 
 pub numeric_agree : NumericTypesAgree

@@ -2,9 +2,9 @@
 use Rattle.std.specs.Prelude.{◌≡◌, ℕ, ◌^◌, ◌<◌, [], ◌∷◌, length}
 use Rattle.std.specs.Int.{byte_len}
 use mir.Val.{bits}
-use Rattle.wasm_module.specs.declared.instr.NumericOp.{NumericOp}
-use Rattle.wasm_module.specs.declared.instr.LoadOp.{LoadOp}
-use Rattle.wasm_module.specs.declared.instr.StoreOp.{StoreOp}
+use Rattle.syntax_trees.specs.declared.instr.NumericOp.{NumericOp}
+use Rattle.syntax_trees.specs.declared.instr.LoadOp.{LoadOp}
+use Rattle.syntax_trees.specs.declared.instr.StoreOp.{StoreOp}
 use Rattle.wasm_typing.specs.Context.{arrow}
 use Rattle.wasm_typing.specs.Instrs.{numeric_type, load_gives, load_width, store_width}
 use Rattle.wasm_numbers.specs.Types.{operand_types, result_type, IsWord}

@@ -1,20 +1,20 @@
 -- Small functions in a store, whose runs the laws `examples` have, and a small module.
 use Rattle.std.specs.Prelude.{ℕ, zero, suc, ◌+◌, pos, Bool, true, false, List, [], ◌∷◌, map, Option, Some, None, replicate}
-use Rattle.wasm_module.specs.declared.types.ValType.TheVariants.{I32}
-use Rattle.wasm_module.specs.declared.types.Mutability.TheVariants.{Variable}
-use Rattle.wasm_module.specs.declared.instr.BlockType.TheVariants.{Empty, Value, TypeIndex}
-use Rattle.wasm_module.specs.declared.instr.Instr.TheVariants.{Unreachable, Br, BrIf, BrTable, Return, Call, CallIndirect, Drop, LocalGet, LocalSet, LocalTee, GlobalGet, GlobalSet, Load, Store as StoreInstr, MemoryGrow, MemoryCopy, MemoryFill, Select, I32Const, Numeric}
-use Rattle.wasm_module.specs.declared.instr.NumericOp.TheVariants.{Binary}
-use Rattle.wasm_module.specs.declared.instr.Width.TheVariants.{W32}
-use Rattle.wasm_module.specs.declared.instr.BinaryOp.TheVariants.{Add, Sub, DivS}
-use Rattle.wasm_module.specs.declared.instr.LoadOp.TheVariants.{I32Load, I32Load16U}
-use Rattle.wasm_module.specs.declared.instr.StoreOp.TheVariants.{I32Store}
-use Rattle.wasm_module.specs.declared.instr.ConstInstr.{ConstInstr}
-use Rattle.wasm_module.specs.declared.instr.ConstInstr.TheVariants as const
-use Rattle.wasm_module.specs.declared.module.ImportDesc.TheVariants as import
-use Rattle.wasm_module.specs.declared.module.ElementSegment.{ElementSegment}
-use Rattle.wasm_module.specs.declared.module.ModuleTree.{ModuleTree}
-use Rattle.wasm_module.specs.Expr.{Expr, End, Plain, Block, Loop, If, IfElse}
+use Rattle.syntax_trees.specs.declared.module_types.ValType.TheVariants.{I32}
+use Rattle.syntax_trees.specs.declared.module_types.Mutability.TheVariants.{Variable}
+use Rattle.syntax_trees.specs.declared.instr.BlockType.TheVariants.{Empty, Value, TypeIndex}
+use Rattle.syntax_trees.specs.declared.instr.Instr.TheVariants.{Unreachable, Br, BrIf, BrTable, Return, Call, CallIndirect, Drop, LocalGet, LocalSet, LocalTee, GlobalGet, GlobalSet, Load, Store as StoreInstr, MemoryGrow, MemoryCopy, MemoryFill, Select, I32Const, Numeric}
+use Rattle.syntax_trees.specs.declared.instr.NumericOp.TheVariants.{Binary}
+use Rattle.syntax_trees.specs.declared.instr.Width.TheVariants.{W32}
+use Rattle.syntax_trees.specs.declared.instr.BinaryOp.TheVariants.{Add, Sub, DivS}
+use Rattle.syntax_trees.specs.declared.instr.LoadOp.TheVariants.{I32Load, I32Load16U}
+use Rattle.syntax_trees.specs.declared.instr.StoreOp.TheVariants.{I32Store}
+use Rattle.syntax_trees.specs.declared.instr.ConstInstr.{ConstInstr}
+use Rattle.syntax_trees.specs.declared.instr.ConstInstr.TheVariants as const
+use Rattle.syntax_trees.specs.declared.module.ImportDesc.TheVariants as import
+use Rattle.syntax_trees.specs.declared.module.ElementSegment.{ElementSegment}
+use Rattle.syntax_trees.specs.declared.module.ModuleTree.{ModuleTree}
+use Rattle.syntax_trees.specs.Expr.{Expr, End, Plain, Block, Loop, If, IfElse}
 use Rattle.wasm_typing.specs.Context.{arrow}
 use Rattle.wasm_store.specs.Store.{Function, Own, Host, Table, Store}
 use Rattle.wasm_store.specs.Stack.{Stack, Running}

@@ -1,7 +1,7 @@
 -- Stacks that tests run (Core 2.0, the appendix on soundness): they are typed, in a typed store.
 use Rattle.std.specs.Prelude.{◌≡◌, ℕ, List, length, Some}
 use Rattle.std.specs.List.{slice_get}
-use Rattle.wasm_module.specs.declared.types.ValType.{ValType}
+use Rattle.syntax_trees.specs.declared.module_types.ValType.{ValType}
 use Rattle.wasm_numbers.specs.Types.{AreWords}
 use Rattle.wasm_store.specs.Store.{Function, type_of, Store}
 use Rattle.wasm_store.specs.Stack.{Stack}

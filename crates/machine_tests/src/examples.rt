@@ -2,11 +2,11 @@
 
 ghost use Rattle.std.specs.Prelude.{◌≡◌, [], ◌∷◌, true, false, Some, None, Ok, Err};
 ghost use Rattle.std.specs.Int.{w32, w64};
-ghost use Rattle.wasm_module.specs.declared.instr.BinaryOp.TheVariants.{DivS, RemS, RemU, Sub, Shl, ShrS, Rotl};
-ghost use Rattle.wasm_module.specs.declared.instr.UnaryOp.TheVariants.{Extend8S};
-ghost use Rattle.wasm_module.specs.declared.instr.RelationOp.TheVariants.{LtS, LtU};
-ghost use Rattle.wasm_module.specs.declared.instr.LoadOp.TheVariants.{I32Load, I32Load8S, I32Load16U, I64Load32S};
-ghost use Rattle.wasm_module.specs.declared.instr.StoreOp.TheVariants.{I64Store16};
+ghost use Rattle.syntax_trees.specs.declared.instr.BinaryOp.TheVariants.{DivS, RemS, RemU, Sub, Shl, ShrS, Rotl};
+ghost use Rattle.syntax_trees.specs.declared.instr.UnaryOp.TheVariants.{Extend8S};
+ghost use Rattle.syntax_trees.specs.declared.instr.RelationOp.TheVariants.{LtS, LtU};
+ghost use Rattle.syntax_trees.specs.declared.instr.LoadOp.TheVariants.{I32Load, I32Load8S, I32Load16U, I64Load32S};
+ghost use Rattle.syntax_trees.specs.declared.instr.StoreOp.TheVariants.{I64Store16};
 ghost use Rattle.wasm_store.specs.declared.trap.Trap.TheVariants.{Unreachable, DivideByZero, DivideOverflow, MemoryBounds, TableBounds, NullElement, OtherSignature, StackLimit};
 ghost use Rattle.wasm_numbers.specs.declared.trap.NumberTrap.TheVariants as number_trap;
 ghost use Rattle.wasm_numbers.specs.Numeric.{binary, extended, unary, relation};
@@ -16,7 +16,7 @@ ghost use Rattle.wasm_memory.specs.Stores.{stored_bytes};
 ghost use Rattle.wasm_store.specs.Step.{Goes, Calls, Ends, Traps, cost, next, first_frame};
 ghost use Rattle.machine_tests.specs.Examples.{sums, leaves, returns, calls, asks, grows, branches, goes_back, divides, keeps, writes, stops, selects, chooses, copies, fills, at_call, host_alone, store, outcome, answered, nested, four, segment, added, written, starts};
 ghost use Rattle.wasm_store.specs.Stack.{Given, Running};
-ghost use Rattle.wasm_module.specs.Expr.{End};
+ghost use Rattle.syntax_trees.specs.Expr.{End};
 ghost use Rattle.wasm_typing.specs.Context.{arrow};
 
 /// Operations at the edges of their widths.

@@ -5,8 +5,8 @@ use cases::Steps;
 use std::alloc::{AllocError, Global};
 use std::fmt::Write;
 use std::test::Fail;
+use syntax_trees::NumericOp;
 use wasm_code_reader::numeric;
-use wasm_module::NumericOp;
 use wasm_numbers::{NumberTrap, of_one, of_two, takes_one, takes_two};
 
 /// The name of a trap.

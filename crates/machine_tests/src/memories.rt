@@ -1,8 +1,8 @@
 //! What lines make of a linear memory, as text.
 
 use crate::hex::{hex, hex32, split};
-use ca_base::Memory;
 use cases::{Steps, bytes_of_lines};
+use faults::Memory;
 use std::alloc::{AllocError, Global};
 use std::fmt::Write;
 use std::test::Fail;

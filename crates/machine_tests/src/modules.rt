@@ -1,11 +1,11 @@
 //! Modules of texts, and imports.
 
-use ca_base::Seq;
 use cases::bytes_of;
 use std::alloc::Global;
 use std::test::Fail;
+use syntax_trees::Seq;
+use syntax_trees::module_types::{FuncType, ValType};
 use wasm_code::External;
-use wasm_module::{FuncType, ValType};
 
 /// The preamble of a core module.
 const PREAMBLE: &[u8] = &[0x00, 0x61, 0x73, 0x6d, 0x01, 0x00, 0x00, 0x00];

@@ -5,8 +5,8 @@ use cases::{Acts, write_acts};
 use std::alloc::{AllocError, Global};
 use std::fmt::Write;
 use std::test::Fail;
+use syntax_trees::{BinaryOp, NumericOp, Width};
 use wasm_code_reader::numeric;
-use wasm_module::{BinaryOp, NumericOp, Width};
 use wasm_numbers::{NumberTrap, apply, operand_count};
 
 /// Writes an answer, and what is left of the operands.

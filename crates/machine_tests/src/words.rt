@@ -1,14 +1,14 @@
 //! Words of texts.
 
 ghost use Rattle.std.specs.Prelude.{◌≡◌, ℕ, List, ◌∷◌, true};
-ghost use Rattle.wasm_module.specs.declared.types.ValType.{ValType};
+ghost use Rattle.syntax_trees.specs.declared.module_types.ValType.{ValType};
 ghost use Rattle.wasm_numbers.specs.Types.{AreWords};
 
 use crate::hex::hex;
 use std::alloc::Global;
 use std::fmt::Write;
 use std::test::Fail;
-use wasm_module::ValType;
+use syntax_trees::module_types::ValType;
 
 /// The words of a text, as hexadecimal numbers, between which a letter stands. A line stands for none.
 pub(crate) fn words_of(alloc: Global, text: &str, between: char) -> Result<Vec<u64>, Fail> {

@@ -1,12 +1,12 @@
 //! Modules of bytes.
 
-use ca_base::{MemoryOr, ReadError};
+use ca_base::ReadError;
+use faults::MemoryOr;
 use std::alloc::Global;
 use std::test::Fail;
 use wasm_code_reader::ModuleWhy;
-use wasm_module::Module;
 use wasm_reader::read_module;
-use wasm_typing::{Valid, ValidFault};
+use wasm_typing::{Module, Valid, ValidFault};
 use wasm_valid::validate;
 
 /// The module of bytes, of which the first one stands at a place.

@@ -1,12 +1,12 @@
 //! What becomes of the bytes of a module that is read and then validated.
 
-use ca_base::{MemoryOr, ReadError, Refusal};
+use ca_base::{ReadError, Refusal};
+use faults::MemoryOr;
 use module_reading::{checked, read_at};
 use std::alloc::Global;
 use std::test::Fail;
 use wasm_code_reader::ModuleWhy;
-use wasm_module::Module;
-use wasm_typing::ValidFault;
+use wasm_typing::{Module, ValidFault};
 
 /// The place and the reason of a refusal.
 fn refusal_text(alloc: Global, refusal: Refusal<ModuleWhy>) -> Result<String, Fail> {

@@ -1,10 +1,12 @@
 //! Modules as text.
 
 use crate::ops::{write_found, write_op};
-use ca_base::Seq;
 use std::alloc::{AllocError, Global};
 use std::fmt::{Debug, Write};
-use wasm_module::{Export, Func, FuncPlaces, FuncType, ModulePlaces, ModuleTree, local_types};
+use syntax_trees::module::Export;
+use syntax_trees::module_types::FuncType;
+use syntax_trees::{Func, ModuleTree, Seq};
+use wasm_typing::{FuncPlaces, ModulePlaces, local_types};
 
 /// Writes each item behind a space.
 fn write_list<T: Debug>(text: &mut String, items: &[T]) -> Result<(), AllocError> {

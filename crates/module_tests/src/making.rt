@@ -1,12 +1,12 @@
 //! The bytes that are made of modules.
 
-use ca_base::{Bytes, Memory};
 use comp_make::{Build, module_bytes};
+use faults::Memory;
 use module_reading::{read_at, valid_of};
 use std::alloc::Global;
 use std::test::Fail;
-use wasm_module::Module;
-use wasm_typing::Valid;
+use syntax_trees::Bytes;
+use wasm_typing::{Module, Valid};
 
 /// The bytes that are made of a module.
 fn made(alloc: Global, read: Module) -> Result<Bytes, Memory> {

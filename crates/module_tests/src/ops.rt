@@ -2,7 +2,7 @@
 
 use std::alloc::AllocError;
 use std::fmt::Write;
-use wasm_module::{BinaryOp, Instr, NumericOp, Op, Width};
+use syntax_trees::{BinaryOp, Instr, NumericOp, Op, Width};
 
 /// Writes an instruction.
 fn write_instr(text: &mut String, instr: &Instr) -> Result<(), AllocError> {

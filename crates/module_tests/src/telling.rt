@@ -4,8 +4,7 @@ use crate::items::{items_text, op_text, sizes_text};
 use module_reading::{checked, read_at};
 use std::alloc::{AllocError, Global};
 use std::test::Fail;
-use wasm_module::Module;
-use wasm_typing::Valid;
+use wasm_typing::{Module, Valid};
 
 /// What is shown of a module: its `items`, or its `sizes`.
 fn shown(alloc: Global, kind: &str, read: &Module) -> Result<String, Fail> {

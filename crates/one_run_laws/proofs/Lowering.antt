@@ -1,8 +1,8 @@
 -- Values that are lowered come to one thing, where no type stands twice among those by which ends are told.
 use Rattle.std.proofs.Common.{◌≡◌, ◌∙◌, ℕ, List, length, refl, sym, ap, subst, arith, Option, Some, None, Result, Ok, Err, inl, inr}
-use Rattle.ca_types.specs.declared.types.ValType.{ValType}
-use Rattle.ca_types.specs.declared.value.Value.{Value}
-use Rattle.ca_types.specs.Fits.{fits}
+use Rattle.syntax_trees.specs.declared.types.ValType.{ValType}
+use Rattle.syntax_trees.specs.declared.value.Value.{Value}
+use Rattle.syntax_trees.specs.Fits.{fits}
 use Rattle.laid_types.specs.Known.{Numbered}
 use Rattle.laid_types.specs.SameTypes.{AreDistinct}
 use Rattle.handle_table.specs.Slots.{Slots, added}

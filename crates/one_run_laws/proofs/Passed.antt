@@ -1,7 +1,7 @@
 -- Values that are passed come to one thing, where no type stands twice among the program's types.
 use Rattle.std.proofs.Common.{◌≡◌, ◌∙◌, ℕ, List, [], Option, Some, None, sym}
 use Rattle.std.specs.List.{slice_get}
-use Rattle.ca_types.specs.declared.value.Value.{Value}
+use Rattle.syntax_trees.specs.declared.value.Value.{Value}
 use Rattle.laid_types.specs.Known.{Numbered, numbered_at}
 use Rattle.laid_types.specs.SameTypes.{AreDistinct}
 use Rattle.entry_gate.specs.declared.kind.Kind.{Kind}

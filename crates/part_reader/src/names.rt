@@ -6,8 +6,9 @@ ghost use Rattle.part_reader.specs.Names.{extern_name};
 ghost use Rattle.part_reader.specs.Reasons.{numbers};
 
 use crate::fault::{ComponentWhy, unsupported};
-use ca_base::{Kind, Name, ReadError, Window};
+use ca_base::{Kind, ReadError, Window};
 use std::alloc::Global;
+use syntax_trees::Name;
 
 /// Reads a name, and keeps it (Core 2.0, section 5.2.4).
 ///

@@ -1,7 +1,7 @@
 -- What built-ins pass, by the numbers of types.
 use Rattle.std.proofs.Common.{◌≡◌, ℕ, List, [], ◌∷◌, sym, subst, Option, Some}
 use Rattle.std.specs.List.{AllZip}
-use Rattle.ca_types.specs.declared.types.ValType.{ValType}
+use Rattle.syntax_trees.specs.declared.types.ValType.{ValType}
 use Rattle.laid_types.specs.Parts.{part_at}
 use Rattle.builtin_kinds.specs.declared.EndKind.{EndKind}
 use Rattle.comp_graph.specs.declared.graph.BuiltinKind.{BuiltinKind}

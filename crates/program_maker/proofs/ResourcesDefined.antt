@@ -6,7 +6,7 @@ use Rattle.std.proofs.lemmas.Bool.{ne_eqb}
 use Rattle.std.proofs.lemmas.Bool.Decides.{nat_tests}
 use Rattle.std.proofs.lemmas.List.{length-set}
 use Rattle.std.proofs.lemmas.Option.{slice_get_within, slice_get_read}
-use Rattle.ca_base.proofs.Seen.{take_one}
+use Rattle.syntax_trees.proofs.Seen.{take_one}
 use Rattle.comp_graph.specs.declared.graph.Resource.{Resource}
 use Rattle.program_maker.specs.Programs.{defined_as, defined_by, AreDefined}
 

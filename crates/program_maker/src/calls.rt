@@ -4,10 +4,10 @@ ghost use Rattle.std.specs.Prelude.{◌≡◌, IfOk};
 ghost use Rattle.program_maker.specs.Programs.{call_numbers};
 
 use ca_base::{by_name, find};
-use ca_types::Export;
 use programs::CallNumbers;
 use script_reader::Item;
 use std::alloc::{AllocError, Global};
+use syntax_trees::Export;
 
 /// The calls among these items, in order, each of the first export of its name.
 pub(crate) fn calls_of(

@@ -2,20 +2,20 @@
 
 ghost use Rattle.std.specs.Prelude.{◌≡◌, ◌<◌, ℕ, length, Some, None, IfOk};
 ghost use Rattle.std.specs.List.{slice_get, AllZip};
-ghost use Rattle.ca_types.specs.declared.exports.Export.{Export};
-ghost use Rattle.ca_types.specs.declared.types.FuncType.{FuncType};
-ghost use Rattle.ca_types.specs.declared.types.ValType.{ValType};
+ghost use Rattle.syntax_trees.specs.declared.exports.Export.{Export};
+ghost use Rattle.syntax_trees.specs.declared.types.FuncType.{FuncType};
+ghost use Rattle.syntax_trees.specs.declared.types.ValType.{ValType};
 ghost use Rattle.laid_types.specs.Parts.{part_at};
 ghost use Rattle.comp_graph.specs.Graph.{passed_value, numbered_value};
 ghost use Rattle.comp_graph.specs.Passed.{MayBeAt, HasCanonType, AreCanonTypes, AreExportTypes};
 ghost use Rattle.programs.specs.declared.program.FuncNumbers.{FuncNumbers};
 ghost use Rattle.program_maker.specs.Programs.{PassesFunc, PassesCanon, PassesValue};
 
-use ca_types::Export;
 use comp_graph::{BuiltinKind, CanonFunc, FuncTypes};
 use laid_types::LaidTypes;
 use programs::FuncNumbers;
 use std::alloc::{AllocError, Global};
+use syntax_trees::Export;
 
 /// A number, as an index.
 fn as_index(number: Option<u32>) -> Option<usize>

@@ -4,9 +4,9 @@ ghost use Rattle.std.specs.Prelude.{◌≡◌, ◌+◌, ◌∷◌, ◌++◌, ℕ
 ghost use Rattle.comp_graph.specs.declared.graph.Resource.{Resource};
 ghost use Rattle.program_maker.specs.Programs.{AreDefined};
 
-use ca_base::Seq;
 use comp_graph::{Resource, graph_number};
 use std::alloc::{AllocError, Global};
+use syntax_trees::Seq;
 
 /// No resources, for each of so many instances.
 fn none_defined(alloc: Global, instances: u32) -> Result<Vec<Seq<u32>>, AllocError>

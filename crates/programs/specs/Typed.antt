@@ -1,7 +1,7 @@
 -- The arguments of a call of a script with their types (Component Model, CanonicalABI.md, `canon lift`).
 use Rattle.std.specs.Prelude.{List, [], ◌∷◌}
-use Rattle.ca_types.specs.declared.types.ValType.{ValType}
-use Rattle.ca_types.specs.declared.value.Value.{Value}
+use Rattle.syntax_trees.specs.declared.types.ValType.{ValType}
+use Rattle.syntax_trees.specs.declared.value.Value.{Value}
 use Rattle.trace_labels.specs.declared.typed.TypedValue.{TypedValue}
 
 -- values with their types, as many as both

@@ -3,9 +3,9 @@
 ghost use Rattle.std.specs.Prelude.{◌≡◌, map, IfOk};
 ghost use Rattle.programs.specs.Typed.{typed};
 
-use ca_base::{Memory, Name, Seq};
-use ca_types::{Boxed, Param, Value};
+use faults::Memory;
 use std::alloc::Global;
+use syntax_trees::{Boxed, Name, Param, Seq, Value};
 use trace_labels::TypedValue;
 
 /// The same value. It nests as deep as its type does.

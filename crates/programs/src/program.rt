@@ -5,11 +5,10 @@ ghost use Rattle.std.specs.List.{slice_get};
 ghost use Rattle.std.specs.Option.{option_map};
 ghost use Rattle.programs.specs.Program.{numbers_of, params_of, returned_of, value_of, host_values, resources_of};
 
-use ca_base::Seq;
-use ca_types::Value;
 use comp_graph::Graph;
 use laid_types::{LaidTypes, NumberedType};
 use script_reader::{Item, Script};
+use syntax_trees::{Seq, Value};
 use task_table::Callee;
 
 /// The numbers of the types of what a function passes, among types.

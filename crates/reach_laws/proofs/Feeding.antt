@@ -21,7 +21,7 @@ use Rattle.abi_machine.specs.Counting.{phase_of, has_resolved}
 use Rattle.abi_machine.specs.sound.Answers.{IsOfCanon, IsInRange, HasResults, HasResultsAt}
 use Rattle.abi_machine.specs.sound.Firsts.{FirstIs}
 use Rattle.abi_machine.specs.sound.TypedStacks.{CallsTyped, HostedTyped, ActsTyped, IsTyped, nested_results}
-use Rattle.wasm_module.specs.declared.types.ValType as core_val
+use Rattle.syntax_trees.specs.declared.module_types.ValType as core_val
 use Rattle.abi_machine.specs.sound.TypedWorlds.{HasResult, Acts, pending_of, IsGrounded, IsTypedWorld}
 use Rattle.abi_machine.specs.sound.Words.{IsPassed, HostedPasses, CodePasses, KeepsWords, WordsAreKept}
 use Rattle.abi_machine.proofs.sound.Found.{some_same}

@@ -1,10 +1,10 @@
 -- The instantiation of a module whose data are bytes leaves a store that extends the one before, with memories of bytes.
 use Rattle.std.proofs.Common.{◌≡◌, ◌+◌, ◌*◌, ℕ, Bool, true, false, if◌then◌else◌, nat_le, List, [], ◌∷◌, length, map, subst, Option, Some, None}
 use Rattle.std.specs.List.{slice_get, AllByRecursion}
-use Rattle.wasm_module.specs.declared.module.DataSegment.{DataSegment}
-use Rattle.wasm_module.specs.declared.module.ElementSegment.{ElementSegment}
-use Rattle.wasm_module.specs.declared.module.ModuleTree.{ModuleTree}
-use Rattle.wasm_module.specs.declared.types.Limits.{Limits}
+use Rattle.syntax_trees.specs.declared.module.DataSegment.{DataSegment}
+use Rattle.syntax_trees.specs.declared.module.ElementSegment.{ElementSegment}
+use Rattle.syntax_trees.specs.declared.module.ModuleTree.{ModuleTree}
+use Rattle.syntax_trees.specs.declared.module_types.Limits.{Limits}
 use Rattle.wasm_memory.specs.Memories.{MemoryState}
 use Rattle.wasm_store.specs.Store.{Table, Instance, Store, table_at}
 use Rattle.wasm_store.specs.Instantiation.{External, new_memory, allocated, into_table, element_written, data_written, init_value, Instantiation, Makes, SegmentBounds, all_written, instance_of, instantiated}

@@ -1,7 +1,7 @@
 -- Scripts as they are read: the arguments of calls hold no handle, whose representation could be too large, and no end of a stream or a future, since
 -- neither has a text.
 use Rattle.std.specs.Prelude.{ℕ, List}
-use Rattle.ca_types.specs.declared.exports.Export.{Export}
+use Rattle.syntax_trees.specs.declared.exports.Export.{Export}
 use Rattle.script_reader.specs.Script.{Script, IsScript}
 use Rattle.abi_machine.specs.sound.EndsPassed.{ScriptPassesNoEnd}
 use Rattle.abi_machine.specs.sound.Words.{ScriptPassesSmall}

@@ -1,10 +1,9 @@
 //! Exports as callers of components speak of them.
 
-use ca_base::{Name, Seq};
-use ca_types::{Export, Exports, FuncType, Param, Shared, ValType};
 use cases::Answers;
 use std::alloc::{AllocError, Global};
 use std::test::Fail;
+use syntax_trees::{Export, Exports, FuncType, Name, Param, Seq, Shared, ValType};
 
 /// The export of this name from a parameter of this label.
 fn export_of(alloc: Global, name: &str, label: &str) -> Result<Export, AllocError> {

@@ -3,13 +3,14 @@
 use crate::builtins::write_canon;
 use crate::texts::{write_behind, write_debug};
 use crate::types::{write_alias, write_type};
-use ca_base::{Name, Placed};
+use ca_base::Placed;
 use comp_tree::{
     Component, CoreArgument, CoreInlineExport, CoreInstance, Export, ExternDesc, Import, Instance,
     Item, NamedDefinition,
 };
 use std::alloc::AllocError;
 use std::fmt::Debug;
+use syntax_trees::Name;
 use wasm_typing::Valid;
 
 /// Writes a name behind a space.

@@ -1,9 +1,9 @@
 //! The types of values of components as text.
 
 use crate::texts::{write_behind, write_debug};
-use ca_base::Name;
 use comp_tree::{Case, DefValType, Field, ValTypeRef};
 use std::alloc::AllocError;
+use syntax_trees::Name;
 
 /// Writes a value type.
 pub(crate) fn write_val_type(text: &mut String, val_type: ValTypeRef) -> Result<(), AllocError> {

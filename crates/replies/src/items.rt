@@ -5,9 +5,9 @@ ghost use Rattle.world_parts.specs.Turning.{call_taken, call_cancelled};
 
 use crate::standing::{count_call, may_cancel, task_of_call};
 use crate::subtasks::cancel;
-use ca_base::{Name, Seq};
 use entry_gate::Kind;
 use std::alloc::Global;
+use syntax_trees::{Name, Seq};
 use task_table::{Callee, Caller, TaskSlot};
 use trace_labels::{Label, TypedValue};
 use world_parts::{Flow, Part, Parts, Rest, Stop, number_behind};

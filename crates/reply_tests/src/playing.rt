@@ -4,13 +4,13 @@ use crate::calling::call;
 use crate::returning::checked;
 use crate::saying::{Said, front};
 use crate::setting::{give_picks, start};
-use ca_base::{Fuel, Seq};
-use ca_types::Value;
+use ca_base::Fuel;
 use copy_replies::{Moving, complete, moving_of};
 use graph_cases::NamedGraph;
 use graph_views::canon_at;
 use replies::{begin, return_value};
 use std::alloc::{AllocError, Global};
+use syntax_trees::{Seq, Value};
 use trace_labels::{Copied, TypedValue, TypedValues};
 use world_parts::{Copying, Flow, Part, Parts, Stop};
 

@@ -1,15 +1,15 @@
 //! What is looked up of a graph and a script by numbers, and values that are the same.
 
 use crate::telling::{write_after, write_behind, write_numbers};
-use ca_base::{MemoryOr, Name, Seq};
-use ca_types::{Export, Exports, Param, Shared, Value};
 use cases::Answers;
+use faults::MemoryOr;
 use graph_cases::{NamedGraph, graph, let_go};
 use laid_types::LaidTypes;
 use programs::{CallNumbers, FuncNumbers, Program, same_value, same_values, typed_values};
 use script_reader::{Script, ScriptFault, read_script};
 use std::alloc::Global;
 use std::test::Fail;
+use syntax_trees::{Export, Exports, Name, Param, Seq, Shared, Value};
 use task_table::Callee;
 use trace_labels::TypedValue;
 use type_texts::{func_of, params_of, type_told, value_told, values_of};

@@ -1,9 +1,9 @@
 //! Calls of the script, tasks that enter, and picks.
 
-use ca_base::{Name, Seq};
 use entry_gate::Kind;
 use replies::take_call;
 use std::alloc::{AllocError, Global};
+use syntax_trees::{Name, Seq};
 use task_turns::{arrive, enter};
 use world_parts::{Flow, Part, Parts, Rest, Stop};
 

@@ -31,12 +31,12 @@ use crate::telling::{
     write_offer, write_rest, write_task, write_turned,
 };
 use builtin_kinds::EndKind;
-use ca_base::Seq;
 use event_replies::able;
 use replies::{back, cancel_call, may_leave};
 use std::alloc::{AllocError, Global};
 use std::fmt::Write;
 use std::test::Fail;
+use syntax_trees::Seq;
 use task_turns::{arrive, end, enter, go_now, leave, loop_word, turn};
 use world_cases::{add_borrow, add_own, fill, keep, lend, lift, pass, press};
 use world_parts::Stop;

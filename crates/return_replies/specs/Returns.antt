@@ -3,7 +3,7 @@
 -- than the function's. All texts are in UTF-8.
 use Rattle.std.specs.Prelude.{◌≡◌, ℕ, nat_eq, Bool, true, false, not, if◌then◌else◌, Option, Some, None}
 use Rattle.std.specs.Option.{option_map}
-use Rattle.ca_types.specs.declared.types.ValType.{ValType}
+use Rattle.syntax_trees.specs.declared.types.ValType.{ValType}
 use Rattle.laid_types.specs.Known.{Numbered}
 use Rattle.laid_types.specs.SameTypes.{same_val, AreDistinct}
 use Rattle.comp_graph.specs.declared.graph.Options.{Options}

@@ -1,10 +1,10 @@
 //! The canonical functions that a realloc may call.
 
 use builtin_kinds::{ContextOp, PlainBuiltin, ResourceOp};
-use ca_types::{Boxed, Shared};
 use comp_graph::{Builtin, BuiltinKind, CanonFunc, FuncRef, Lift, Lower, Options};
 use std::alloc::Global;
 use std::test::Fail;
+use syntax_trees::{Boxed, Shared};
 use type_texts::func_of;
 
 /// Options that name nothing.

@@ -7,13 +7,13 @@ ghost use Rattle.table_texts.specs.Things.{thing_view};
 
 use crate::given::given;
 use crate::scene::Scene;
-use ca_base::Memory;
-use ca_types::{ValType, Value};
 use copy_engine::{Copied, CopyFrom, Lowering, copy};
+use faults::Memory;
 use laid_types::NumberedType;
 use std::alloc::Global;
 use std::fmt::Write;
 use std::test::Fail;
+use syntax_trees::{ValType, Value};
 use table_texts::number;
 use type_texts::value_told;
 use value_lift::{LiftTrap, LiftWhy};

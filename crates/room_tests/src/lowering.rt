@@ -1,11 +1,11 @@
 //! What is lowered into a room, as text.
 
-use ca_types::Value;
 use copy_engine::{NestedTrap, StoreRoom};
 use laid_types::LaidType;
 use std::alloc::Global;
 use std::fmt::Write;
 use std::test::Fail;
+use syntax_trees::Value;
 use table_texts::{may_all_lower, may_lower};
 use value_lower::{LowerError, LowerWhy, RoomEnd, Words};
 use wasm_store::Trap;

@@ -1,12 +1,12 @@
 //! A store with two instances of the module in which a realloc stands.
 
-use ca_base::Seq;
 use cases::bytes_of;
 use module_reading::valid_of;
 use std::alloc::Global;
 use std::test::Fail;
+use syntax_trees::Seq;
+use syntax_trees::module_types::{FuncType, ValType};
 use wasm_code::External;
-use wasm_module::{FuncType, ValType};
 use wasm_store::Store;
 use wasm_typing::Valid;
 

@@ -5,11 +5,12 @@ ghost use Rattle.value_lift.specs.Tables.{MostLends};
 ghost use Rattle.table_texts.specs.Things.{thing_view};
 
 use crate::given::given;
-use ca_base::{Fuel, Seq};
+use ca_base::Fuel;
 use copy_engine::Acts;
 use handle_table::Table;
 use std::alloc::Global;
 use std::test::Fail;
+use syntax_trees::Seq;
 use table_texts::{Thing, number, slots_of, table_of};
 use value_lift::Moved;
 

@@ -2,8 +2,8 @@
 use Rattle.std.proofs.Common.{◌≡◌, ◌+◌, ◌*◌, ◌==◌, ℕ, zero, suc, Bool, true, false, if◌then◌else◌, List, [], ◌∷◌, ◌++◌, map, length, replicate, refl, sym, ap, ◌∙◌, subst, arith, Option, Some, None, Result, Ok, Err}
 use Rattle.std.specs.List.{slice_get, filter_map}
 use Rattle.std.proofs.lemmas.Bool.{eqb-true}
-use Rattle.ca_types.specs.declared.types.ValType.{ValType}
-use Rattle.ca_types.specs.declared.value.Value.{Value}
+use Rattle.syntax_trees.specs.declared.types.ValType.{ValType}
+use Rattle.syntax_trees.specs.declared.value.Value.{Value}
 use Rattle.copy_engine.specs.declared.acts.Act.{Act}
 use Rattle.copy_engine.specs.declared.acts.Acts.{Acts}
 use Rattle.copy_engine.specs.declared.answering.CallRefusal.TheVariants as refusal

@@ -1,11 +1,11 @@
 -- Borrow handles that a task gets are counted: what is kept stands for the same world, in which they are counted where they are looked at.
 use Rattle.std.proofs.Common.{◌≡◌, ℕ, List, [], ◌∷◌, map, Some, None, refl, sym, ◌∙◌, subst}
 use Rattle.wasm_store.specs.Stack.{Stack}
-use Rattle.ca_types.specs.declared.types.ValType.{ValType}
-use Rattle.ca_types.specs.declared.value.Value.{Value}
-use Rattle.ca_types.specs.declared.value.Value.TheOpen as V
-use Rattle.ca_types.specs.declared.value.Value.TheViews.{roll-Value}
-use Rattle.ca_types.specs.declared.value.Value.TheFolds.{map-Value, ind-Value, fold-roll-Value}
+use Rattle.syntax_trees.specs.declared.types.ValType.{ValType}
+use Rattle.syntax_trees.specs.declared.value.Value.{Value}
+use Rattle.syntax_trees.specs.declared.value.Value.TheOpen as V
+use Rattle.syntax_trees.specs.declared.value.Value.TheViews.{roll-Value}
+use Rattle.syntax_trees.specs.declared.value.Value.TheFolds.{map-Value, ind-Value, fold-roll-Value}
 use Rattle.res_handles.specs.Calls.{is_defined}
 use Rattle.tasks.specs.declared.event.TaskEvent.TheVariants as event
 use Rattle.tasks.specs.Tasks as task_of

@@ -3,8 +3,8 @@ use Rattle.std.proofs.Common.{◌≡◌, ◌<◌, ℕ, true, if◌then◌else◌
 use Rattle.std.specs.Prelude.{IsSome}
 use Rattle.std.specs.List.{slice_get}
 use Rattle.wasm_store.specs.Stack.{Stack}
-use Rattle.ca_types.specs.declared.types.FuncType.{FuncType}
-use Rattle.ca_types.specs.declared.types.ValType.{ValType}
+use Rattle.syntax_trees.specs.declared.types.FuncType.{FuncType}
+use Rattle.syntax_trees.specs.declared.types.ValType.{ValType}
 use Rattle.comp_graph.specs.declared.graph.Builtin.{Builtin}
 use Rattle.comp_graph.specs.declared.graph.BuiltinKind.{BuiltinKind}
 use Rattle.comp_graph.specs.declared.graph.BuiltinKind.TheVariants as kind

@@ -4,13 +4,13 @@ use Rattle.std.specs.List.{slice_get}
 use Rattle.std.specs.Option.{option_map}
 use Rattle.wasm_store.specs.Stack.{Stack}
 use Rattle.wasm_store.specs.Store.{Store, found_at}
-use Rattle.ca_types.specs.declared.types.FuncType.{FuncType}
-use Rattle.ca_types.specs.declared.types.ValType.{ValType}
-use Rattle.ca_types.specs.declared.value.Value.{Value}
-use Rattle.ca_types.specs.declared.value.Value.TheVariants as value
-use Rattle.ca_types.specs.Fits.{fits}
-use Rattle.ca_types.specs.Flat.{flat_params}
-use Rattle.ca_types.specs.declared.core_type.CoreType.{CoreType}
+use Rattle.syntax_trees.specs.declared.types.FuncType.{FuncType}
+use Rattle.syntax_trees.specs.declared.types.ValType.{ValType}
+use Rattle.syntax_trees.specs.declared.value.Value.{Value}
+use Rattle.syntax_trees.specs.declared.value.Value.TheVariants as value
+use Rattle.syntax_trees.specs.Fits.{fits}
+use Rattle.syntax_trees.specs.Flat.{flat_params}
+use Rattle.syntax_trees.specs.declared.core_type.CoreType.{CoreType}
 use Rattle.laid_types.specs.Known.{Numbered}
 use Rattle.copy_engine.specs.declared.lower_values.Target.TheVariants as target
 use Rattle.copy_engine.specs.Hosted.{plan_to}
@@ -22,7 +22,7 @@ use Rattle.comp_graph.specs.declared.graph.Lift.{Lift}
 use Rattle.comp_graph.specs.declared.graph.Options.{Options}
 use Rattle.comp_graph.specs.declared.graph.Resource.{Resource}
 use Rattle.comp_graph.specs.Graph.{Graph, Lifted, lifted_as}
-use Rattle.ca_types.specs.declared.exports.Export.{Export}
+use Rattle.syntax_trees.specs.declared.exports.Export.{Export}
 use Rattle.graph_views.specs.Callees as seen
 use Rattle.graph_views.specs.Callees.{lift_of}
 use Rattle.script_reader.specs.Script.{Script}

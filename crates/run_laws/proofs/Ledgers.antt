@@ -1,6 +1,6 @@
 -- The machine's ledger over a world, with ends told by their types, and one that stops where a borrow is lent.
 use Rattle.std.proofs.Common.{◌≡◌, ◌∙◌, ℕ, Bool, true, false, List, refl, ap, subst, Option, Some, None, Result, Ok, Err}
-use Rattle.ca_types.specs.declared.types.ValType.{ValType}
+use Rattle.syntax_trees.specs.declared.types.ValType.{ValType}
 use Rattle.laid_types.specs.Handles.{has_borrow}
 use Rattle.builtin_kinds.specs.declared.EndKind.{EndKind}
 use Rattle.res_handles.specs.declared.entry.EntryView.{EntryView}

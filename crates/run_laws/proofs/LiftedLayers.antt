@@ -8,16 +8,16 @@ use Rattle.std.specs.Option.{option_map}
 use Rattle.std.specs.Int.{Width, w8, w32}
 use mir.Val.{bits}
 use Rattle.builtin_kinds.specs.declared.EndKind.{EndKind}
-use Rattle.ca_types.specs.declared.core_type.CoreType.{CoreType}
-use Rattle.ca_types.specs.declared.types.ValType.{ValType, out-ValType, roll-ValType}
-use Rattle.ca_types.specs.declared.types.Case.{Case}
-use Rattle.ca_types.specs.declared.types.Field.{Field}
-use Rattle.ca_types.specs.declared.types.ValType.TheOpen as F
-use Rattle.ca_types.specs.declared.types.ValType.TheViews.{out-roll-ValType}
-use Rattle.ca_types.specs.declared.value.Value.{Value}
-use Rattle.ca_types.specs.declared.value.Value.TheViews as values
-use Rattle.ca_types.specs.Layout.{Laid, laid, there, aligned, tag_size, top_align}
-use Rattle.ca_types.specs.Flat.{flat, flat_step}
+use Rattle.syntax_trees.specs.declared.core_type.CoreType.{CoreType}
+use Rattle.syntax_trees.specs.declared.types.ValType.{ValType, out-ValType, roll-ValType}
+use Rattle.syntax_trees.specs.declared.types.Case.{Case}
+use Rattle.syntax_trees.specs.declared.types.Field.{Field}
+use Rattle.syntax_trees.specs.declared.types.ValType.TheOpen as F
+use Rattle.syntax_trees.specs.declared.types.ValType.TheViews.{out-roll-ValType}
+use Rattle.syntax_trees.specs.declared.value.Value.{Value}
+use Rattle.syntax_trees.specs.declared.value.Value.TheViews as values
+use Rattle.laid_types.specs.Layout.{Laid, laid, there, aligned, tag_size, top_align}
+use Rattle.syntax_trees.specs.Flat.{flat, flat_step}
 use Rattle.laid_types.specs.Parts.{parts_of, parts_case, case_count, count_case}
 use Rattle.comp_graph.specs.Graph.{ends_type}
 use Rattle.value_lift.specs.declared.trap.LiftTrap.{LiftTrap}

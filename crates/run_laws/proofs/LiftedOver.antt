@@ -5,21 +5,21 @@ use Rattle.std.specs.Int.{w32}
 use Rattle.std.proofs.lemmas.List.{length-map}
 use Rattle.builtin_kinds.specs.declared.EndKind.{EndKind}
 use Rattle.builtin_kinds.specs.declared.EndKind.TheVariants as end_kind
-use Rattle.ca_types.specs.declared.core_type.CoreType.{CoreType}
-use Rattle.ca_types.specs.declared.types.ValType.{ValType, out-ValType, roll-ValType}
-use Rattle.ca_types.specs.declared.types.Case.{Case}
-use Rattle.ca_types.specs.declared.types.Field.{Field}
-use Rattle.ca_types.specs.declared.types.ValType.TheOpen as F
-use Rattle.ca_types.specs.declared.types.ValType.TheViews as types
-use Rattle.ca_types.specs.declared.types.ValType.TheViews.{roll-Case, roll-Field, out-roll-ValType}
-use Rattle.ca_types.specs.declared.types.ValType.TheVariants as leaves
-use Rattle.ca_types.specs.declared.types.ValType.TheFolds.{ind-ValType, map-ValType, map-Case, map-Field}
-use Rattle.ca_types.specs.declared.value.Value.{Value}
-use Rattle.ca_types.specs.declared.value.Value.TheVariants as plain
-use Rattle.ca_types.specs.Layout.{Laid, laid, laid_step, record_laid, tagged, there}
-use Rattle.ca_types.specs.Flat.{flat, flat_step, all_of, joined_all, joined_lists, held_flat}
-use Rattle.ca_types.specs.declared.core_type.CoreType.TheVariants.{I32}
-use Rattle.ca_types.proofs.Folds.{held, fold_case, fold_field}
+use Rattle.syntax_trees.specs.declared.core_type.CoreType.{CoreType}
+use Rattle.syntax_trees.specs.declared.types.ValType.{ValType, out-ValType, roll-ValType}
+use Rattle.syntax_trees.specs.declared.types.Case.{Case}
+use Rattle.syntax_trees.specs.declared.types.Field.{Field}
+use Rattle.syntax_trees.specs.declared.types.ValType.TheOpen as F
+use Rattle.syntax_trees.specs.declared.types.ValType.TheViews as types
+use Rattle.syntax_trees.specs.declared.types.ValType.TheViews.{roll-Case, roll-Field, out-roll-ValType}
+use Rattle.syntax_trees.specs.declared.types.ValType.TheVariants as leaves
+use Rattle.syntax_trees.specs.declared.types.ValType.TheFolds.{ind-ValType, map-ValType, map-Case, map-Field}
+use Rattle.syntax_trees.specs.declared.value.Value.{Value}
+use Rattle.syntax_trees.specs.declared.value.Value.TheVariants as plain
+use Rattle.laid_types.specs.Layout.{Laid, laid, laid_step, record_laid, tagged, there}
+use Rattle.syntax_trees.specs.Flat.{flat, flat_step, all_of, joined_all, joined_lists, held_flat}
+use Rattle.syntax_trees.specs.declared.core_type.CoreType.TheVariants.{I32}
+use Rattle.syntax_trees.proofs.Folds.{held, fold_case, fold_field}
 use Rattle.comp_graph.specs.Graph.{ends_type}
 use Rattle.value_lift.specs.declared.trap.LiftWhy.TheVariants.{Misaligned, Bounds}
 use Rattle.value_lift.specs.Bytes.{number, is_inside, is_aligned}

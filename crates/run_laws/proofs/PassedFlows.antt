@@ -1,6 +1,6 @@
 -- What may follow where values were passed: words, a rest, or a core function that starts; behind the end of a core function it is a rest.
 use Rattle.std.proofs.Common.{◌≡◌, refl, sym, subst, ℕ, nat_lt, ◌-◌, Bool, true, false, if◌then◌else◌, is_none, List, [], ◌∷◌, length, take, Option, Some, None, Result, Ok, Err}
-use Rattle.ca_types.specs.declared.value.Value.{Value}
+use Rattle.syntax_trees.specs.declared.value.Value.{Value}
 use Rattle.laid_types.specs.Known.{Numbered, numbered_at}
 use Rattle.entry_gate.specs.Callbacks.{callback_of}
 use Rattle.entry_gate.specs.declared.callback.BadCode.{BadCode}

@@ -1,10 +1,10 @@
 -- Lines that were told before change nothing of what a result that is passed comes to.
 use Rattle.std.proofs.Common.{◌≡◌, ℕ, ◌+◌, Bool, true, false, not, nat_lt, if◌then◌else◌, List, [], ◌∷◌, length, take, refl, sym, ap, ◌∙◌, subst, append_assoc, Option, Some, None, Result, Ok, Err}
 use Rattle.std.specs.List.{slice_get}
-use Rattle.ca_types.specs.declared.types.ValType.{ValType}
-use Rattle.ca_types.specs.declared.value.Value.{Value}
-use Rattle.ca_types.specs.Fits.{fits}
-use Rattle.ca_types.specs.Flat.{flat}
+use Rattle.syntax_trees.specs.declared.types.ValType.{ValType}
+use Rattle.syntax_trees.specs.declared.value.Value.{Value}
+use Rattle.syntax_trees.specs.Fits.{fits}
+use Rattle.syntax_trees.specs.Flat.{flat}
 use Rattle.laid_types.specs.Known.{Numbered, numbered_at}
 use Rattle.handle_table.specs.Slots.{Slots}
 use Rattle.value_lift.specs.declared.counting.LiftOf.{LiftOf}

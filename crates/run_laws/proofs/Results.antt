@@ -4,7 +4,7 @@ use Rattle.std.specs.List.{slice_get, AllZip}
 use Rattle.std.specs.Option.{option_map, option_and_then}
 use Rattle.wasm_store.specs.Store.{Store, found_at}
 use Rattle.wasm_store.specs.Stack.{Stack}
-use Rattle.ca_types.specs.declared.types.ValType.{ValType}
+use Rattle.syntax_trees.specs.declared.types.ValType.{ValType}
 use Rattle.laid_types.specs.Handles.{held_borrow}
 use Rattle.laid_types.specs.Known.{Numbered, numbered_at}
 use Rattle.entry_gate.specs.declared.kind.Kind.TheVariants.{Sync}

@@ -6,7 +6,7 @@ use Rattle.wasm_store.specs.Store.{found_at}
 use Rattle.wasm_store.specs.Stack.{Stack}
 use Rattle.wasm_execution.specs.declared.running.Outcome.{Outcome}
 use Rattle.wasm_execution.specs.declared.running.Outcome.TheVariants as outcome
-use Rattle.ca_types.specs.declared.types.ValType.{ValType}
+use Rattle.syntax_trees.specs.declared.types.ValType.{ValType}
 use Rattle.comp_graph.specs.Graph.{Graph}
 use Rattle.script_reader.specs.Script.{Script}
 use Rattle.trace_labels.specs.declared.label.Label.{Label}

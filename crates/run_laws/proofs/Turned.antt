@@ -3,9 +3,9 @@ use Rattle.std.proofs.Common.{◌≡◌, ◌<◌, ◌≤◌, inl, inr, ℕ, zero
 use Rattle.std.specs.List.{slice_get}
 use Rattle.std.proofs.lemmas.Bool.{lt-ltb, le-ltb}
 use Rattle.std.proofs.lemmas.List.{length-map}
-use Rattle.ca_types.specs.declared.exports.Export.{Export}
-use Rattle.ca_types.specs.declared.types.ValType.{ValType}
-use Rattle.ca_types.specs.declared.value.Value.{Value}
+use Rattle.syntax_trees.specs.declared.exports.Export.{Export}
+use Rattle.syntax_trees.specs.declared.types.ValType.{ValType}
+use Rattle.syntax_trees.specs.declared.value.Value.{Value}
 use Rattle.wasm_store.specs.Stack.{Stack}
 use Rattle.entry_gate.specs.declared.kind.Kind.{Kind}
 use Rattle.comp_graph.specs.declared.graph.Lift.{Lift}

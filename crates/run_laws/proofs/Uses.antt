@@ -4,7 +4,7 @@ use Rattle.std.specs.Prelude.{nat_le, IsSome}
 use Rattle.std.specs.List.{slice_get}
 use Rattle.std.specs.Option.{option_map}
 use Rattle.wasm_store.specs.Stack.{Stack}
-use Rattle.ca_types.specs.declared.types.ValType.{ValType}
+use Rattle.syntax_trees.specs.declared.types.ValType.{ValType}
 use Rattle.handle_table.specs.Slots.{Slots, removed, entry_at}
 use Rattle.res_handles.specs.declared.handle.Handle.{Handle}
 use Rattle.res_handles.specs.declared.entry.EntryView.{EntryView}

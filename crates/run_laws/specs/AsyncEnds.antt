@@ -5,7 +5,7 @@
 use Rattle.std.specs.Prelude.{◌≡◌, ℕ, List, Some}
 use Rattle.std.specs.List.{slice_get}
 use Rattle.wasm_store.specs.Stack.{Stack}
-use Rattle.ca_types.specs.declared.types.ValType.{ValType}
+use Rattle.syntax_trees.specs.declared.types.ValType.{ValType}
 use Rattle.entry_gate.specs.declared.kind.Kind.{Kind}
 use Rattle.entry_gate.specs.declared.kind.Kind.TheVariants.{Sync, Callback, Stackful}
 use Rattle.comp_graph.specs.Graph.{Graph, Lifted}

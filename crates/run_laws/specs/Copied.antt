@@ -3,8 +3,8 @@
 use Rattle.std.specs.Prelude.{◌≡◌, ◌≤◌, ◌+◌, ◌*◌, ◌%◌, ℕ, false, List, ◌++◌, length, Option, Some, IsSome}
 use Rattle.std.specs.List.{slice_get}
 use Rattle.wasm_store.specs.Stack.{Stack}
-use Rattle.ca_types.specs.declared.types.ValType.{ValType}
-use Rattle.ca_types.specs.Layout.{laid}
+use Rattle.syntax_trees.specs.declared.types.ValType.{ValType}
+use Rattle.laid_types.specs.Layout.{laid}
 use Rattle.laid_types.specs.Handles.{held_borrow}
 use Rattle.copy_engine.specs.Nested.{bytes_in}
 use Rattle.stream_ends.specs.declared.open_copy.OpenCopy.{OpenCopy}

@@ -3,7 +3,7 @@
 -- so where what each function answers is what the machine answers, the whole call is.
 use Rattle.std.specs.Prelude.{◌≡◌, ℕ, true, List, [], ◌∷◌, ◌++◌, Option, Some, IsSome}
 use Rattle.std.specs.List.{slice_get}
-use Rattle.ca_types.specs.declared.types.ValType.{ValType}
+use Rattle.syntax_trees.specs.declared.types.ValType.{ValType}
 use Rattle.wasm_store.specs.Stack.{Stack}
 use Rattle.builtin_kinds.specs.declared.ContextOp.{ContextOp}
 use Rattle.builtin_kinds.specs.declared.ContextOp.TheVariants as context_op

@@ -2,9 +2,9 @@
 -- place once more, which the machine tested when the copy was asked. Where it is aligned, and all elements are inside the memory, both follow one plan.
 use Rattle.std.specs.Prelude.{◌≡◌, ◌≤◌, ◌+◌, ◌*◌, ◌%◌, ℕ, Bool, true, List, length}
 use Rattle.wasm_store.specs.Stack.{Stack}
-use Rattle.ca_types.specs.declared.types.ValType.{ValType}
-use Rattle.ca_types.specs.declared.value.Value.{Value}
-use Rattle.ca_types.specs.Layout.{laid}
+use Rattle.syntax_trees.specs.declared.types.ValType.{ValType}
+use Rattle.syntax_trees.specs.declared.value.Value.{Value}
+use Rattle.laid_types.specs.Layout.{laid}
 use Rattle.copy_engine.specs.Copying.{all_fit}
 use Rattle.copy_engine.specs.Hosted.{plan_all}
 use Rattle.copy_engine.specs.Nested.{bytes_in}

@@ -1,7 +1,7 @@
 -- Where task 0 instantiates (Component Model, Explainer.md, "Instance Definitions"; Core 2.0, section 4.5.4): a step of the kept machine makes the next thing
 -- of the graph's plan, as the machine does in a turn.
 use Rattle.std.specs.Prelude.{◌≡◌, ℕ, List, []}
-use Rattle.ca_types.specs.declared.types.ValType.{ValType}
+use Rattle.syntax_trees.specs.declared.types.ValType.{ValType}
 use Rattle.comp_graph.specs.Graph.{Graph}
 use Rattle.script_reader.specs.Script.{Script}
 use Rattle.programs.specs.declared.program.Program.{Program}

@@ -1,7 +1,7 @@
 -- What a run leaves, as it is written down: what is kept stands for a world whose text is the same (Component Model, CanonicalABI.md, "Component Instance State",
 -- "Table State", "Waitable Set State", "Stream State"; Core 2.0, section 4.2.8).
 use Rattle.std.specs.Prelude.{◌≡◌, List}
-use Rattle.ca_types.specs.declared.types.ValType.{ValType}
+use Rattle.syntax_trees.specs.declared.types.ValType.{ValType}
 use Rattle.wasm_store.specs.Stack.{Stack}
 use Rattle.comp_graph.specs.Graph.{Graph}
 use Rattle.script_reader.specs.Script.{Script}

@@ -4,7 +4,7 @@
 use Rattle.std.specs.Prelude.{◌≡◌, ℕ, true, List, ◌++◌, map, Option, Some, Ok, Err}
 use Rattle.std.specs.List.{slice_get, AllZip}
 use Rattle.wasm_store.specs.Stack.{Stack}
-use Rattle.ca_types.specs.declared.types.ValType.{ValType}
+use Rattle.syntax_trees.specs.declared.types.ValType.{ValType}
 use Rattle.laid_types.specs.Handles.{held_borrow}
 use Rattle.laid_types.specs.Known.{Numbered}
 use Rattle.comp_graph.specs.declared.graph.CanonFunc.{CanonFunc}

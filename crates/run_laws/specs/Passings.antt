@@ -3,7 +3,7 @@
 -- the machine comes to by its steps from the world in the midst of the turn where they are to be passed.
 use Rattle.std.specs.Prelude.{◌≡◌, ◌⊎◌, ℕ, List, ◌++◌, Option}
 use Rattle.wasm_store.specs.Stack.{Stack}
-use Rattle.ca_types.specs.declared.types.ValType.{ValType}
+use Rattle.syntax_trees.specs.declared.types.ValType.{ValType}
 use Rattle.entry_gate.specs.declared.kind.Kind.{Kind}
 use Rattle.entry_gate.specs.declared.kind.Kind.TheVariants.{Sync, Callback, Stackful}
 use Rattle.comp_graph.specs.declared.graph.Builtin.{Builtin}

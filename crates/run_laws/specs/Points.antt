@@ -2,7 +2,7 @@
 -- step of the kept machine ends at a rest, or where values are to be passed: there the machine is in the midst of a turn, whose lines so far are
 -- told already.
 use Rattle.std.specs.Prelude.{◌≡◌, ℕ, List, [], ◌++◌, map, Some}
-use Rattle.ca_types.specs.declared.types.ValType.{ValType}
+use Rattle.syntax_trees.specs.declared.types.ValType.{ValType}
 use Rattle.wasm_store.specs.Stack.{Stack}
 use Rattle.comp_graph.specs.Graph.{Graph}
 use Rattle.script_reader.specs.Script.{Script}

@@ -3,7 +3,7 @@
 -- goes on, and behind a function that is lifted without `async` its post-return runs, and it is to exit. Of destructors nothing is said.
 use Rattle.std.specs.Prelude.{◌≡◌, ℕ, false, List, ◌++◌, Option, Some}
 use Rattle.wasm_store.specs.Stack.{Stack}
-use Rattle.ca_types.specs.declared.types.ValType.{ValType}
+use Rattle.syntax_trees.specs.declared.types.ValType.{ValType}
 use Rattle.laid_types.specs.Handles.{held_borrow}
 use Rattle.entry_gate.specs.declared.kind.Kind.TheVariants.{Sync}
 use Rattle.comp_graph.specs.declared.graph.Builtin.{Builtin}

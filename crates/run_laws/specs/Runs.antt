@@ -1,7 +1,7 @@
 -- Where the acting task's stack is to run (Core 2.0, section 4.4; Component Model, Concurrency.md, "Summary"): what the kept machine comes to by a run
 -- of it, the machine comes to by its turns.
 use Rattle.std.specs.Prelude.{◌≡◌, List, []}
-use Rattle.ca_types.specs.declared.types.ValType.{ValType}
+use Rattle.syntax_trees.specs.declared.types.ValType.{ValType}
 use Rattle.comp_graph.specs.Graph.{Graph}
 use Rattle.script_reader.specs.Script.{Script}
 use Rattle.trace_labels.specs.declared.label.Label.{Label}

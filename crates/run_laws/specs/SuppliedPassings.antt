@@ -2,8 +2,8 @@
 -- follows from the rest before, at which what was kept stood for a world that a run reaches: of the result of a task that returns, of the core results with which a function or a
 -- callback ended, and of elements that go over.
 use Rattle.std.specs.Prelude.{◌≡◌, ℕ, List, Some}
-use Rattle.ca_types.specs.declared.types.FuncType.{FuncType}
-use Rattle.ca_types.specs.declared.types.ValType.{ValType}
+use Rattle.syntax_trees.specs.declared.types.FuncType.{FuncType}
+use Rattle.syntax_trees.specs.declared.types.ValType.{ValType}
 use Rattle.wasm_store.specs.Stack.{Stack}
 use Rattle.comp_graph.specs.Graph.{Graph, Lifted}
 use Rattle.comp_graph.specs.Passed.{MayBeAt}

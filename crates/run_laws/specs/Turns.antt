@@ -2,7 +2,7 @@
 -- the machine does, and ends where it ends. Among several alternatives one is chosen, by the same picks; the machine does so in a turn of its own.
 use Rattle.std.specs.Prelude.{◌≡◌, ℕ, List, [], length, take, Some}
 use Rattle.std.specs.List.{slice_get, count_by}
-use Rattle.ca_types.specs.declared.types.ValType.{ValType}
+use Rattle.syntax_trees.specs.declared.types.ValType.{ValType}
 use Rattle.wasm_store.specs.Stack.{Stack}
 use Rattle.comp_graph.specs.Graph.{Graph, Lifted, func_at, func_named}
 use Rattle.script_reader.specs.declared.script.Call.{Call}

@@ -1,7 +1,7 @@
 -- Whole runs (Component Model, Concurrency.md, "Summary"): where at each point that a run of the kept machine reaches a step may be made, the run is the machine's: the machine
 -- has a run of the same graph and script with the same lines, in the same order, and with the same end.
 use Rattle.std.specs.Prelude.{◌≡◌, ℕ, List}
-use Rattle.ca_types.specs.declared.types.ValType.{ValType}
+use Rattle.syntax_trees.specs.declared.types.ValType.{ValType}
 use Rattle.wasm_store.specs.Stack.{Stack}
 use Rattle.comp_graph.specs.Graph.{Graph}
 use Rattle.script_reader.specs.Script.{Script}

@@ -19,12 +19,13 @@ use answer_texts::{
     accepted_text, graph_text, link_refused_line, refused_line, script_refused_line,
 };
 use builtins::{Run, run_script, trace_text};
-use ca_base::{Bytes, MemoryOr, ReadError, Seq};
+use ca_base::ReadError;
 use ca_io::MemSink;
 use cases::Answers;
 use comp_graph::Graph;
 use comp_link::{LinkFault, link};
 use comp_reader::{Component, ComponentWhy, read_component};
+use faults::MemoryOr;
 use graph_laws::laws::{
     calls_are_sound, counted_graphs_are_plain, files_are_bytes, linked_graphs_are_apart,
     read_graphs_are_sound, read_modules_are_typed, read_types_are_counted,
@@ -38,6 +39,7 @@ use std::alloc::Global;
 use std::fmt::Write;
 use std::test::Fail;
 use sync_items::runs_synchronously;
+use syntax_trees::{Bytes, Seq};
 use trace_show::Trace;
 use value_moves::{ValueMoves, passes_stay_fit};
 use world::{RunEnd, dump_text};

@@ -2,12 +2,13 @@
 
 use crate::reasons::{component_why, link_why, script_why};
 use answer_texts::{link_refused_line, refused_line, script_refused_line};
-use ca_base::{Bytes, Refusal};
+use ca_base::Refusal;
 use cases::Steps;
 use link_spec::LinkFault;
 use script_reader::ScriptFault;
 use std::alloc::Global;
 use std::test::Fail;
+use syntax_trees::Bytes;
 
 /// Whose lines of refusals they are.
 #[derive(Clone, Copy)]

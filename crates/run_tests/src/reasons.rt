@@ -1,11 +1,11 @@
 //! Reasons of refusals, by their names.
 
-use ca_base::Name;
 use comp_reader::ComponentWhy;
 use link_spec::LinkWhy;
 use script_reader::ScriptWhy;
 use std::alloc::Global;
 use std::test::Fail;
+use syntax_trees::Name;
 use wasm_code_reader::ModuleWhy;
 use wasm_typing::ValidWhy;
 

@@ -1,6 +1,6 @@
 -- A text is one script, or is refused in one way.
 use Rattle.std.proofs.Common.{◌≡◌, ◌⊎◌, inl, inr, ℕ, List, refl, sym, ◌∙◌, Result, Ok, Err}
-use Rattle.ca_types.specs.declared.exports.Export.{Export}
+use Rattle.syntax_trees.specs.declared.exports.Export.{Export}
 use Rattle.script_reader.specs.declared.fault.ScriptFault.{ScriptFault}
 use Rattle.script_reader.specs.Script.{Script, script, IsScript, IsScriptRefused}
 use Rattle.script_reader.specs.Laws.{OneScript}

@@ -1,9 +1,9 @@
 -- A text is refused as a call exactly where it is none, and for the first reason that it has.
 use Rattle.std.proofs.Common.{◌≡◌, ◌↔◌, inl, inr, ℕ, List, Option, Some, None, Result, Ok, Err, refl, ap, ◌∙◌, subst}
 use Rattle.std.proofs.lemmas.Bool.{cond-true, cond-false}
-use Rattle.ca_types.specs.declared.types.ValType.{ValType}
-use Rattle.ca_types.specs.declared.value.Value.{Value}
-use Rattle.ca_types.specs.declared.exports.Export.{Export}
+use Rattle.syntax_trees.specs.declared.types.ValType.{ValType}
+use Rattle.syntax_trees.specs.declared.value.Value.{Value}
+use Rattle.syntax_trees.specs.declared.exports.Export.{Export}
 use Rattle.value_reader.specs.Values.{arguments}
 use Rattle.value_reader.specs.Host.{func_has_host_type}
 use Rattle.script_reader.specs.declared.script.Call.{Call}

@@ -1,7 +1,7 @@
 -- The text of a line is refused exactly where it says nothing that a line may say, and for the reason that it has.
 use Rattle.std.proofs.Common.{◌≡◌, IsTrue, inl, inr, ℕ, List, ◌++◌, codes, Option, Some, None, Result, Ok, Err, refl, sym, ap, ◌∙◌}
 use Rattle.std.proofs.lemmas.Bool.{cases_Bool, cond-true, cond-false, both_ways, false_from_ne_true}
-use Rattle.ca_types.specs.declared.exports.Export.{Export}
+use Rattle.syntax_trees.specs.declared.exports.Export.{Export}
 use Rattle.script_reader.specs.declared.script.Call.{Call}
 use Rattle.script_reader.specs.declared.fault.ScriptWhy.{ScriptWhy}
 use Rattle.script_reader.specs.declared.fault.ScriptWhy.TheVariants as why

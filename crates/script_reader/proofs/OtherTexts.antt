@@ -3,7 +3,7 @@ use Rattle.std.proofs.Common.{◌≡◌, inl, inr, ℕ, ◌+◌, List, [], ◌�
 use Rattle.std.proofs.lemmas.List.{length-map, map-append}
 use Rattle.std.proofs.lemmas.Str.{utf8_valid_len-IsValidUpTo}
 use Rattle.std.specs.Str.Lossy.{utf8_valid_len}
-use Rattle.ca_types.specs.declared.exports.Export.{Export}
+use Rattle.syntax_trees.specs.declared.exports.Export.{Export}
 use Rattle.script_reader.specs.declared.fault.ScriptWhy.{ScriptWhy}
 use Rattle.script_reader.specs.declared.fault.ScriptWhy.TheVariants as why
 use Rattle.script_reader.specs.declared.fault.ScriptFault.{ScriptFault}

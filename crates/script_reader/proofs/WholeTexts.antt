@@ -2,7 +2,7 @@
 use Rattle.std.proofs.Common.{◌≡◌, ℕ, List, [], ◌∷◌, length, cond, Result, Ok, Err, nat_eq, nat_lt, refl, sym, ap, ◌∙◌, subst}
 use Rattle.std.proofs.lemmas.Bool.{ltb-false}
 use Rattle.std.specs.Str.Lossy.{utf8_valid_len}
-use Rattle.ca_types.specs.declared.exports.Export.{Export}
+use Rattle.syntax_trees.specs.declared.exports.Export.{Export}
 use Rattle.script_reader.specs.declared.fault.ScriptFault.{ScriptFault}
 use Rattle.script_reader.specs.Script.{Script, Draft, empty_draft, add_lines, line_text, lines, script_of, script_or, size_limit, too_long, not_utf8, IsScript}
 use Rattle.script_reader.specs.Syntax.{IsLineOf, ArePaired, SayScript, IsScriptText}

@@ -5,8 +5,8 @@
 use Rattle.std.specs.Prelude.{◌≡◌, ◌≢◌, ◌+◌, ◌≤◌, ◌<◌, ◌⊎◌, IsTrue, ℕ, true, false, List, [], ◌∷◌, ◌++◌, length, codes, Some, None, is_some}
 use Rattle.std.specs.List.{join_with_byte, count_by, AllByRecursion}
 use Rattle.std.specs.Str.{IsUtf8, IsValidUpTo}
-use Rattle.ca_types.specs.declared.value.Value.{Value}
-use Rattle.ca_types.specs.declared.exports.Export.{Export}
+use Rattle.syntax_trees.specs.declared.value.Value.{Value}
+use Rattle.syntax_trees.specs.declared.exports.Export.{Export}
 pub use Rattle.value_reader.specs.Written.{AreBlanks, AreArguments}
 use Rattle.value_reader.specs.Host.{func_has_host_type}
 use Rattle.script_reader.specs.declared.script.Call.{Call}

@@ -3,16 +3,16 @@
 ghost use Rattle.std.specs.Prelude.{◌≡◌, ◌≤◌, length};
 ghost use Rattle.std.specs.List.{position_or_len};
 ghost use Rattle.std.specs.Str.{IsUtf8};
-ghost use Rattle.ca_base.specs.Faults.{MayMake};
+ghost use Rattle.faults.specs.Faults.{MayMake};
 ghost use Rattle.script_reader.specs.Script as scripts;
 
 use crate::directory::Directory;
 use crate::fault::ScriptWhy;
 use crate::script::Call;
 use crate::text::{after_mark, is_blank};
-use ca_base::{MemoryOr, Name};
-use ca_types::{Export, Values};
+use faults::MemoryOr;
 use std::alloc::Global;
+use syntax_trees::{Export, Name, Values};
 use value_reader::{func_has_host_type, read_arguments};
 
 /// Whether a name ends before this byte.

@@ -3,14 +3,14 @@
 ghost use Rattle.std.specs.Prelude.{◌≡◌, IfOk, IfSome, map};
 ghost use Rattle.std.specs.Option.{option_map};
 ghost use Rattle.std.specs.Str.{IsUtf8};
-ghost use Rattle.ca_base.specs.Names.{first_named};
+ghost use Rattle.syntax_trees.specs.Names.{first_named};
 ghost use Rattle.script_reader.specs.Script as scripts;
 
 use ca_base::{by_name, find};
-use ca_types::Export;
 use std::alloc::{AllocError, Global};
 use std::collections::BTreeMap;
 use std::marker::Model;
+use syntax_trees::Export;
 
 /// The exports of a component with the places of their names. Contracts see the exports.
 #[derive(Drop)]
@@ -22,9 +22,9 @@ pub struct Directory<'a> {
 impl<'a> Model for Directory<'a> {
     ghost use Rattle.std.specs.Prelude.{◌≡◌, ℕ, List, map};
     ghost use Rattle.std.specs.Coded.{coded_list};
-    ghost use Rattle.ca_base.specs.Names.{at_name, first_named};
-    ghost use Rattle.ca_types.specs.declared.exports.Export.{Export};
-    ghost use Rattle.ca_types.specs.contracts.exports.Export as an_export;
+    ghost use Rattle.syntax_trees.specs.Names.{at_name, first_named};
+    ghost use Rattle.syntax_trees.specs.declared.exports.Export.{Export};
+    ghost use Rattle.syntax_trees.specs.contracts.exports.Export as an_export;
 
     ghost Value = { List Export };
 

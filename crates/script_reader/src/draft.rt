@@ -2,7 +2,7 @@
 
 ghost use Rattle.std.specs.Prelude.{◌≡◌, Ok, Err, MatchResult};
 ghost use Rattle.std.specs.Str.{IsUtf8};
-ghost use Rattle.ca_base.specs.Faults.{MayMake, MayStep};
+ghost use Rattle.faults.specs.Faults.{MayMake, MayStep};
 ghost use Rattle.script_reader.specs.Script as scripts;
 
 use crate::call::read_call;
@@ -12,9 +12,10 @@ use crate::number::{is_number, number_up_to};
 use crate::parts::Parts;
 use crate::script::{Item, Script};
 use crate::text::after;
-use ca_base::{MemoryOr, Seq};
+use faults::MemoryOr;
 use std::alloc::Global;
 use std::marker::Model;
+use syntax_trees::Seq;
 
 /// How many units of fuel a script gives at most.
 const FUEL_LIMIT: u32 = 1_000_000_000;

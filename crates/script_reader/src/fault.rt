@@ -2,7 +2,7 @@
 
 ghost use Rattle.std.specs.Prelude.{◌≡◌};
 
-use ca_base::MemoryOr;
+use faults::MemoryOr;
 use thiserror::Error;
 
 /// Why a text is refused. At one line the first in this order is told.
@@ -45,7 +45,7 @@ pub struct ScriptFault {
 }
 
 impl From<ScriptWhy> for MemoryOr<ScriptWhy> {
-    ghost use Rattle.ca_base.specs.declared.memory.MemoryOr.TheVariants.{Fault};
+    ghost use Rattle.faults.specs.declared.memory.MemoryOr.TheVariants.{Fault};
 
     ghost from_gives = { λ why e. e ≡ Fault why };
 
@@ -55,7 +55,7 @@ impl From<ScriptWhy> for MemoryOr<ScriptWhy> {
 }
 
 impl From<ScriptFault> for MemoryOr<ScriptFault> {
-    ghost use Rattle.ca_base.specs.declared.memory.MemoryOr.TheVariants.{Fault};
+    ghost use Rattle.faults.specs.declared.memory.MemoryOr.TheVariants.{Fault};
 
     ghost from_gives = { λ fault e. e ≡ Fault fault };
 

@@ -1,8 +1,8 @@
 //! The reader of scripts.
 
 ghost use Rattle.std.specs.Prelude.{◌≡◌, IfOk, IfErr};
-ghost use Rattle.ca_base.specs.declared.memory.MemoryOr.TheVariants.{Memory};
-ghost use Rattle.ca_base.specs.Faults.{IfFault, MayMake};
+ghost use Rattle.faults.specs.declared.memory.MemoryOr.TheVariants.{Memory};
+ghost use Rattle.faults.specs.Faults.{IfFault, MayMake};
 ghost use Rattle.script_reader.specs.Script as scripts;
 ghost use Rattle.script_reader.specs.Script.{IsScript, IsScriptRefused, AreItems};
 
@@ -12,9 +12,9 @@ use crate::fault::{ScriptFault, ScriptWhy};
 use crate::parts::Parts;
 use crate::script::Script;
 use crate::text::{line_at, line_text};
-use ca_base::MemoryOr;
-use ca_types::Exports;
+use faults::MemoryOr;
 use std::alloc::Global;
+use syntax_trees::Exports;
 
 /// How many bytes a script has at most: 1 MiB.
 const SIZE_LIMIT: usize = 1024 * 1024;

@@ -3,9 +3,8 @@
 ghost use Rattle.std.specs.Prelude.{◌≡◌, ◌≤◌};
 ghost use Rattle.script_reader.specs.Script.{fuel_limit};
 
-use ca_base::{Name, Seq};
-use ca_types::Values;
 use std::marker::Model;
+use syntax_trees::{Name, Seq, Values};
 
 /// A call of an exported function.
 #[derive(Drop)]

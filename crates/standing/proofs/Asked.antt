@@ -2,7 +2,7 @@
 use Rattle.std.proofs.Common.{◌≡◌, ℕ, Bool, true, false, ◌&&◌, nat_lt, is_some, is_none, if◌then◌else◌, List, [], ◌∷◌, refl, sym, ap, ◌∙◌, subst, append-nil, append_assoc, Option, Some, None}
 use Rattle.std.specs.List.{slice_get}
 use Rattle.std.proofs.lemmas.Bool.{and_parts}
-use Rattle.ca_types.specs.declared.types.ValType.{ValType}
+use Rattle.syntax_trees.specs.declared.types.ValType.{ValType}
 use Rattle.wasm_store.specs.Stack.{Stack}
 use Rattle.entry_gate.specs.Gates.{GateView, is_free, without_wait}
 use Rattle.entry_gate.specs.declared.kind.Kind.{Kind}

@@ -1,7 +1,7 @@
 -- Control is back at a task that called another one, or cancelled a subtask; and a task that waited for one of these goes on.
 use Rattle.std.proofs.Common.{◌≡◌, ℕ, Bool, false, if◌then◌else◌, List, [], ◌∷◌, ◌++◌, refl, sym, ap, ◌∙◌, subst, Option, Some, None}
 use Rattle.std.specs.List.{slice_get}
-use Rattle.ca_types.specs.declared.types.ValType.{ValType}
+use Rattle.syntax_trees.specs.declared.types.ValType.{ValType}
 use Rattle.wasm_store.specs.Stack.{Stack}
 use Rattle.handle_table.specs.History.{live}
 use Rattle.tasks.specs.declared.event.BlockedAt.TheVariants as blocked_at

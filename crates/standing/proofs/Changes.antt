@@ -1,7 +1,7 @@
 -- What is changed of what is kept is changed of the world for which it stands.
 use Rattle.std.proofs.Common.{◌≡◌, ◌≤◌, ℕ, zero, suc, ◌-◌, ◌+◌, Bool, true, false, if◌then◌else◌, List, [], ◌∷◌, ◌++◌, length, take, drop, refl, sym, ap, ◌∙◌, subst, arith}
 use Rattle.std.specs.List.{slice_get, AllZip}
-use Rattle.ca_types.specs.declared.types.ValType.{ValType}
+use Rattle.syntax_trees.specs.declared.types.ValType.{ValType}
 use Rattle.wasm_store.specs.Stack.{Stack}
 use Rattle.choices.specs.Choosing as picks
 use Rattle.choices.specs.Drawing.{Drawn, StandsFor, uses_one, drawn}

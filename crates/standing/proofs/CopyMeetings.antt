@@ -1,7 +1,7 @@
 -- How a read or a write meets the other end, on both sides.
 use Rattle.std.proofs.Common.{◌≡◌, ◌≤◌, ℕ, Bool, true, false, not, ◌&&◌, is_some, is_none, nat_lt, if◌then◌else◌, refl, sym, ap, ◌∙◌, arith, List, Option, Some, None}
 use Rattle.std.proofs.lemmas.Bool.{lt-ltb, ltb-false, and_from}
-use Rattle.ca_types.specs.declared.types.ValType.{ValType}
+use Rattle.syntax_trees.specs.declared.types.ValType.{ValType}
 use Rattle.builtin_kinds.specs.declared.EndKind.{EndKind}
 use Rattle.builtin_kinds.specs.declared.EndKind.TheVariants as kind
 use Rattle.stream_ends.specs.declared.side.Side.{Side}

@@ -1,6 +1,6 @@
 -- A task that waited for its copy goes on.
 use Rattle.std.proofs.Common.{◌≡◌, ℕ, true, List, [], ◌∷◌, refl, sym, ap, ◌∙◌, subst, Option, Some, None}
-use Rattle.ca_types.specs.declared.types.ValType.{ValType}
+use Rattle.syntax_trees.specs.declared.types.ValType.{ValType}
 use Rattle.handle_table.specs.History.{live}
 use Rattle.handle_table.specs.Alike.{SlotAlike}
 use Rattle.builtin_kinds.specs.declared.EndKind.{EndKind}

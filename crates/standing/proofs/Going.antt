@@ -2,7 +2,7 @@
 use Rattle.std.proofs.Common.{◌≡◌, ℕ, ◌-◌, Bool, true, false, is_none, nat_lt, is_some, if◌then◌else◌, List, [], ◌∷◌, refl, sym, ap, ◌∙◌, subst, append-nil, Option, Some}
 use Rattle.std.specs.Option.{option_map}
 use Rattle.std.specs.List.{slice_get}
-use Rattle.ca_types.specs.declared.types.ValType.{ValType}
+use Rattle.syntax_trees.specs.declared.types.ValType.{ValType}
 use Rattle.wasm_store.specs.Store.{found_at}
 use Rattle.wasm_store.specs.Stack.{Stack}
 use Rattle.tasks.specs.declared.phase.Resolution.{Resolution}

@@ -5,7 +5,7 @@ use Rattle.std.specs.Option.{option_map}
 use Rattle.wasm_store.specs.Stack.{Stack}
 use Rattle.wasm_store.specs.Step.{resume}
 use Rattle.wasm_execution.specs.Waiting.{Waiting}
-use Rattle.ca_types.specs.declared.types.ValType.{ValType}
+use Rattle.syntax_trees.specs.declared.types.ValType.{ValType}
 use Rattle.handle_table.specs.History.{Event, live}
 use Rattle.handle_table.specs.Slots.{Slots, entry_at}
 use Rattle.handle_table.specs.Alike.{StandsBy}

@@ -1,6 +1,6 @@
 -- Entries that a lowering makes, in the table of an instance and in the slots that stand for it.
 use Rattle.std.proofs.Common.{◌≡◌, ℕ, Bool, true, false, nat_lt, if◌then◌else◌, List, refl, sym, ap, ◌∙◌, subst, arith, lt-ltb, le-ltb, Option, Some, None}
-use Rattle.ca_types.specs.declared.types.ValType.{ValType}
+use Rattle.syntax_trees.specs.declared.types.ValType.{ValType}
 use Rattle.handle_table.specs.History.{Event, next_index, most_live}
 use Rattle.handle_table.specs.Slots.{Slots, count}
 use Rattle.handle_table.specs.Slots as slots

@@ -8,7 +8,7 @@ use Rattle.wasm_execution.specs.Waiting.{Waiting}
 use Rattle.wasm_execution.specs.Run.{RunGives}
 use Rattle.wasm_execution.specs.declared.running.Outcome.{Outcome}
 use Rattle.wasm_execution.specs.declared.running.Outcome.TheVariants as outcome
-use Rattle.ca_types.specs.declared.types.ValType.{ValType}
+use Rattle.syntax_trees.specs.declared.types.ValType.{ValType}
 use Rattle.handle_table.specs.History.{Event}
 use Rattle.handle_table.specs.Slots.{Slots}
 use Rattle.handle_table.specs.Alike.{StandsBy}

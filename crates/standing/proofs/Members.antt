@@ -1,7 +1,7 @@
 -- What is ready stays so where lines, picks and control alone are others; and what comes behind lines agrees behind them.
 use Rattle.std.proofs.Common.{◌≡◌, ℕ, zero, suc, Bool, true, false, cond, ◌&&◌, not, List, [], ◌∷◌, ◌++◌, refl, sym, ap, ◌∙◌, append_assoc, filter, Option, Some, None}
 use Rattle.std.specs.List.{slice_get, range_with_len}
-use Rattle.ca_types.specs.declared.types.ValType.{ValType}
+use Rattle.syntax_trees.specs.declared.types.ValType.{ValType}
 use Rattle.wasm_store.specs.Stack.{Stack}
 use Rattle.handle_table.specs.History.{greatest}
 use Rattle.builtin_kinds.specs.declared.EndKind.{EndKind}

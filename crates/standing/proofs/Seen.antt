@@ -3,7 +3,7 @@ use Rattle.std.proofs.Common.{◌≡◌, ℕ, zero, suc, ◌-◌, Bool, nat_eq, 
 use Rattle.std.specs.List.{slice_get}
 use Rattle.std.specs.Option.{option_map, option_and_then}
 use Rattle.std.proofs.lemmas.Bool.{ne_eqb}
-use Rattle.ca_types.specs.declared.exports.Export.{Export}
+use Rattle.syntax_trees.specs.declared.exports.Export.{Export}
 use Rattle.builtin_kinds.specs.declared.PlainBuiltin.{PlainBuiltin}
 use Rattle.builtin_kinds.specs.declared.PlainBuiltin.TheVariants as plain
 use Rattle.comp_graph.specs.declared.graph.EndOp.{EndOp}

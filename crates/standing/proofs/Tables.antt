@@ -2,7 +2,7 @@
 use Rattle.std.proofs.Common.{◌≡◌, ℕ, zero, suc, nat_lt, List, [], ◌∷◌, ◌++◌, map, length, slice_set, slice_index_or, refl, sym, ap, ◌∙◌, subst, Option, Some, None, set}
 use Rattle.std.proofs.lemmas.Bool.{ltb-true}
 use Rattle.std.proofs.lemmas.List.{map-set, set-get_or}
-use Rattle.ca_types.specs.declared.types.ValType.{ValType}
+use Rattle.syntax_trees.specs.declared.types.ValType.{ValType}
 use Rattle.handle_table.specs.History.{Event, slots_of, next_in, next_index, most_live}
 use Rattle.handle_table.specs.Slots.{Slots, with_slot, count, next_of, entry_at, slots_after}
 use Rattle.handle_table.specs.Alike.{SlotAlike, SlotsAlike, StandsBy}

@@ -11,7 +11,7 @@ use Rattle.wasm_execution.specs.Waiting.{Waiting}
 use Rattle.wasm_execution.specs.Run.{RunGives}
 use Rattle.wasm_execution.specs.declared.running.Outcome.{Outcome}
 use Rattle.wasm_execution.specs.declared.running.Outcome.TheVariants as outcome
-use Rattle.ca_types.specs.declared.types.ValType.{ValType}
+use Rattle.syntax_trees.specs.declared.types.ValType.{ValType}
 use Rattle.tasks.specs.Tasks.{is_acting}
 use Rattle.tasks.specs.declared.phase.Phase.{Phase}
 use Rattle.tasks.specs.declared.phase.Phase.TheVariants as phase

@@ -2,7 +2,7 @@
 -- Set State", "Task State"; Concurrency.md, "Summary"): each change keeps that the one stands for the other.
 use Rattle.std.specs.Prelude.{◌≡◌, ℕ, ◌+◌, ◌-◌, true, nat_lt, List, [], ◌∷◌, ◌++◌, length, take, Some, IsSome}
 use Rattle.std.specs.List.{slice_get}
-use Rattle.ca_types.specs.declared.types.ValType.{ValType}
+use Rattle.syntax_trees.specs.declared.types.ValType.{ValType}
 use Rattle.wasm_store.specs.Store.{Store}
 use Rattle.wasm_store.specs.Stack.{Stack}
 use Rattle.handle_table.specs.History.{Remove, live, next_index, live_count, most_live}

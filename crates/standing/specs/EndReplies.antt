@@ -2,8 +2,8 @@
 -- of the type of its ends is that which the graph has for it, and the words of a call are those of its core type.
 use Rattle.std.specs.Prelude.{◌≡◌, ℕ, true, List, Option, Some, IsSome}
 use Rattle.std.specs.List.{slice_get}
-use Rattle.ca_types.specs.declared.types.FuncType.{FuncType}
-use Rattle.ca_types.specs.declared.types.ValType.{ValType}
+use Rattle.syntax_trees.specs.declared.types.FuncType.{FuncType}
+use Rattle.syntax_trees.specs.declared.types.ValType.{ValType}
 use Rattle.laid_types.specs.SameTypes.{AreDistinct}
 use Rattle.wasm_store.specs.Stack.{Stack}
 use Rattle.builtin_kinds.specs.declared.EndKind.{EndKind}

@@ -1,7 +1,7 @@
 -- Before a graph is instantiated (Component Model, Explainer.md, "Instance Definitions"): what is kept is that one task instantiates, with all
 -- that the script gives, and it stands for the first world.
 use Rattle.std.specs.Prelude.{ℕ, List, [], ◌∷◌}
-use Rattle.ca_types.specs.declared.types.ValType.{ValType}
+use Rattle.syntax_trees.specs.declared.types.ValType.{ValType}
 use Rattle.entry_gate.specs.declared.kind.Kind.TheVariants.{Sync}
 use Rattle.tasks.specs.declared.event.TaskEvent.TheVariants.{Enter}
 use Rattle.comp_graph.specs.Graph.{Graph}

@@ -3,7 +3,7 @@
 -- destructor not at all. What is kept does what the machine does.
 use Rattle.std.specs.Prelude.{◌≡◌, ℕ, nat_lt, true, List, Some, IsSome}
 use Rattle.std.specs.List.{slice_get}
-use Rattle.ca_types.specs.declared.types.ValType.{ValType}
+use Rattle.syntax_trees.specs.declared.types.ValType.{ValType}
 use Rattle.wasm_store.specs.Stack.{Stack}
 use Rattle.res_handles.specs.declared.handle.Handle.{Handle}
 use Rattle.res_handles.specs.declared.handle.Ownership.{Ownership}

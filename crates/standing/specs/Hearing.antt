@@ -2,7 +2,7 @@
 -- comes to the acting task, or none does, behind the lines of the part, as the machine has it come in that turn and those behind it.
 use Rattle.std.specs.Prelude.{◌≡◌, ℕ, true, List, ◌++◌, None, Some}
 use Rattle.std.specs.List.{slice_get}
-use Rattle.ca_types.specs.declared.types.ValType.{ValType}
+use Rattle.syntax_trees.specs.declared.types.ValType.{ValType}
 use Rattle.wasm_store.specs.Stack.{Stack}
 use Rattle.tasks.specs.Tasks.{is_asked}
 use Rattle.comp_graph.specs.Graph.{Graph, Lifted}

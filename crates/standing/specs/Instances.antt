@@ -3,7 +3,7 @@
 -- idle, and who holds or waits for exclusive entry are kept beside it, and are not said here.
 use Rattle.std.specs.Prelude.{◌≡◌, ℕ, List, map, Option, Some}
 use Rattle.std.specs.List.{slice_get}
-use Rattle.ca_types.specs.declared.types.ValType.{ValType}
+use Rattle.syntax_trees.specs.declared.types.ValType.{ValType}
 use Rattle.handle_table.specs.Alike.{StandsBy}
 use Rattle.builtin_kinds.specs.declared.EndKind.{EndKind}
 use Rattle.res_handles.specs.declared.handle.Handle.{Handle}

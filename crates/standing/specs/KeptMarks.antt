@@ -4,7 +4,7 @@
 -- the machine computes of the world.
 use Rattle.std.specs.Prelude.{◌≡◌, ℕ, Bool, true, false, ◌&&◌, nat_eq, List, [], ◌∷◌, map, filter, Option, Some, None}
 use Rattle.std.specs.List.{slice_get, list_any, count_by, sum_by}
-use Rattle.ca_types.specs.declared.types.ValType.{ValType}
+use Rattle.syntax_trees.specs.declared.types.ValType.{ValType}
 use Rattle.wasm_store.specs.Stack.{Stack}
 use Rattle.waitables.specs.Sets.{set_at}
 use Rattle.entry_gate.specs.Gates.{GateView}

@@ -2,7 +2,7 @@
 -- "Summary"): that who holds and waits for exclusive entry, and how many tasks wait on a set, are kept as they follow from the tasks.
 use Rattle.std.specs.Prelude.{◌≡◌, ℕ, true, List, Option, Some}
 use Rattle.std.specs.List.{slice_get}
-use Rattle.ca_types.specs.declared.types.ValType.{ValType}
+use Rattle.syntax_trees.specs.declared.types.ValType.{ValType}
 use Rattle.builtin_kinds.specs.declared.EndKind.{EndKind}
 use Rattle.builtin_kinds.specs.declared.WaitOp.{WaitOp}
 use Rattle.handle_table.specs.Slots.{next_of}

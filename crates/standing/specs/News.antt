@@ -2,7 +2,7 @@
 -- kept says right who waits directly for a subtask, and where a copy is waited for directly exactly if its call does not go on before it is done.
 use Rattle.std.specs.Prelude.{◌≡◌, ℕ, true, not, List, Some, IsSome}
 use Rattle.std.specs.List.{slice_get}
-use Rattle.ca_types.specs.declared.types.ValType.{ValType}
+use Rattle.syntax_trees.specs.declared.types.ValType.{ValType}
 use Rattle.wasm_store.specs.Stack.{Stack}
 use Rattle.stream_ends.specs.Ends.{is_pending}
 use Rattle.tasks.specs.Tasks.{state_of}

@@ -2,9 +2,9 @@
 -- `lower_borrow`, `lower_stream` and `lower_future`).
 use Rattle.std.specs.Prelude.{◌≡◌, ℕ, Bool, true, List, [], map, Some}
 use Rattle.std.specs.List.{slice_get}
-use Rattle.ca_types.specs.declared.types.ValType.{ValType}
-use Rattle.ca_types.specs.declared.value.Value.{Value}
-use Rattle.ca_types.specs.Fits.{fits}
+use Rattle.syntax_trees.specs.declared.types.ValType.{ValType}
+use Rattle.syntax_trees.specs.declared.value.Value.{Value}
+use Rattle.syntax_trees.specs.Fits.{fits}
 use Rattle.res_handles.specs.Calls.{is_defined}
 use Rattle.value_lower.specs.Tables.{entered}
 use Rattle.value_lower.specs.Plan.{Gives}

@@ -2,7 +2,7 @@
 -- Concurrency.md, "Cancellation"): what is kept does what the machine does.
 use Rattle.std.specs.Prelude.{◌≡◌, ℕ, nat_lt, true, List, Option, Some, IsSome}
 use Rattle.std.specs.List.{slice_get}
-use Rattle.ca_types.specs.declared.types.ValType.{ValType}
+use Rattle.syntax_trees.specs.declared.types.ValType.{ValType}
 use Rattle.wasm_store.specs.Stack.{Stack}
 use Rattle.tasks.specs.Tasks.{may_cancel}
 use Rattle.comp_graph.specs.declared.graph.Builtin.{Builtin}

@@ -2,7 +2,7 @@
 -- what is kept does what the machine does.
 use Rattle.std.specs.Prelude.{◌≡◌, ℕ, List, [], ◌∷◌, ◌++◌, length, Some, IsSome}
 use Rattle.std.specs.List.{slice_get}
-use Rattle.ca_types.specs.declared.types.ValType.{ValType}
+use Rattle.syntax_trees.specs.declared.types.ValType.{ValType}
 use Rattle.wasm_store.specs.Stack.{Stack}
 use Rattle.entry_gate.specs.declared.kind.Kind.{Kind}
 use Rattle.comp_graph.specs.Graph.{Graph, Lifted, func_at, func_named}

@@ -4,7 +4,7 @@
 use Rattle.std.specs.Prelude.{◌≡◌, ℕ, List, Option, Some, None}
 use Rattle.std.specs.List.{filter_map}
 use Rattle.std.specs.Option.{option_map}
-use Rattle.ca_types.specs.declared.value.Value.{Value}
+use Rattle.syntax_trees.specs.declared.value.Value.{Value}
 use Rattle.comp_graph.specs.declared.graph.CanonFunc.{CanonFunc}
 use Rattle.comp_graph.specs.declared.graph.CanonFunc.TheVariants as canon
 use Rattle.comp_graph.specs.declared.graph.FuncRef.{FuncRef}

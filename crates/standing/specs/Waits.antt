@@ -2,7 +2,7 @@
 -- the event of a ready member comes to a task, one of several is picked, and where none is ready a wait blocks and a poll gets no event.
 use Rattle.std.specs.Prelude.{◌≡◌, ℕ, List, None, Some, IsSome}
 use Rattle.std.specs.List.{slice_get}
-use Rattle.ca_types.specs.declared.types.ValType.{ValType}
+use Rattle.syntax_trees.specs.declared.types.ValType.{ValType}
 use Rattle.wasm_store.specs.Stack.{Stack}
 use Rattle.builtin_kinds.specs.declared.WaitOp.{WaitOp}
 use Rattle.comp_graph.specs.Graph.{Graph, Lifted}

@@ -6,12 +6,12 @@ ghost use Rattle.world_parts.specs.Held.{held};
 
 use crate::given::{given, words_of};
 use crate::telling::stopped;
-use ca_types::{ValType, Value, Values};
 use graph_cases::NamedGraph;
 use laid_types::NumberedType;
 use programs::Program;
 use std::alloc::Global;
 use std::test::Fail;
+use syntax_trees::{ValType, Value, Values};
 use table_texts::number;
 use task_table::Callee;
 use trace_labels::TypedValue;

@@ -9,7 +9,7 @@ ghost use Rattle.world_parts.specs.Held.{held};
 
 use crate::entries::{count_ends, instance_of};
 use crate::given::{given, indices_of, words_of};
-use ca_base::{Fuel, Seq};
+use ca_base::Fuel;
 use cases::bytes_of;
 use choices::Picks;
 use entry_gate::Kind;
@@ -18,6 +18,7 @@ use instances::Instance;
 use module_reading::valid_of;
 use std::alloc::Global;
 use std::test::Fail;
+use syntax_trees::Seq;
 use table_texts::number;
 use task_table::{Called, Callee, Caller, TaskSlot, Tasks};
 use tasks::{SubtaskState, TaskEvent};

@@ -2,8 +2,8 @@
 
 ghost use Rattle.std.specs.Prelude.{◌≡◌, ◌<◌, length, Some};
 ghost use Rattle.std.specs.List.{slice_get, list_all};
-ghost use Rattle.ca_types.specs.declared.exports.Export.{Export};
-ghost use Rattle.ca_types.specs.declared.types.FuncType.{FuncType};
+ghost use Rattle.syntax_trees.specs.declared.exports.Export.{Export};
+ghost use Rattle.syntax_trees.specs.declared.types.FuncType.{FuncType};
 ghost use Rattle.comp_graph.specs.declared.graph.CanonFunc as canon;
 ghost use Rattle.comp_graph.specs.Passed.{ArePassed};
 ghost use Rattle.sync_items.specs.Graphs as sync;

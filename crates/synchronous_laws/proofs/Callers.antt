@@ -7,7 +7,7 @@ use Rattle.wasm_store.specs.Step.{Move, Goes, Calls, Traps, start}
 use Rattle.wasm_store.specs.Step as core
 use Rattle.wasm_store.specs.Instantiation.{External, Instantiation, Makes, instance_of, instantiated, start_call}
 use Rattle.wasm_store.specs.Instantiation as core_instance
-use Rattle.ca_types.specs.declared.value.Value.{Value}
+use Rattle.syntax_trees.specs.declared.value.Value.{Value}
 use Rattle.value_lift.specs.declared.trap.LiftTrap.{LiftTrap}
 use Rattle.value_lower.specs.Plan.{Plan}
 use Rattle.comp_graph.specs.declared.graph.Action.{Action}

@@ -4,7 +4,7 @@ use Rattle.std.proofs.Common.{◌≡◌, ◌≢◌, ◌<◌, inl, inr, ◌+◌, 
 use Rattle.std.proofs.lemmas.Bool.{eq-eqb}
 use Rattle.std.specs.List.{slice_get, AllByRecursion}
 use Rattle.std.specs.Option.{option_map, option_and_then}
-use Rattle.ca_types.specs.declared.value.Value.{Value}
+use Rattle.syntax_trees.specs.declared.value.Value.{Value}
 use Rattle.value_lift.specs.declared.trap.LiftTrap.{LiftTrap}
 use Rattle.value_lower.specs.Plan.{Plan}
 use Rattle.wasm_store.specs.Store.{Function, Host as HostFunction, Store, found_at}
@@ -13,7 +13,7 @@ use Rattle.wasm_store.specs.Step.{Move, Goes, Calls, Traps, start, resume, next}
 use Rattle.wasm_store.specs.Step as core
 use Rattle.wasm_store.specs.Instantiation.{External, Instantiation, Makes, instantiated}
 use Rattle.wasm_store.specs.Instantiation as core_instance
-use Rattle.wasm_module.specs.declared.types.ValType.{ValType}
+use Rattle.syntax_trees.specs.declared.module_types.ValType.{ValType}
 use Rattle.wasm_store.specs.Typed.{StoreTyped, StackTyped}
 use Rattle.wasm_store.specs.Laws.{MoveTyped}
 use Rattle.wasm_store.proofs.Lists.{all_at, all_append, all_drop, found_there}

@@ -10,7 +10,7 @@ use Rattle.wasm_store.specs.Step.{start}
 use Rattle.wasm_store.specs.Instantiation.{External, Instantiation, Makes, instance_of, instantiated, start_call}
 use Rattle.wasm_store.specs.Instantiation as core_instance
 use Rattle.wasm_store.proofs.Lists.{if_both}
-use Rattle.ca_types.specs.declared.value.Value.{Value}
+use Rattle.syntax_trees.specs.declared.value.Value.{Value}
 use Rattle.value_lift.specs.declared.trap.LiftTrap.{LiftTrap}
 use Rattle.comp_graph.specs.declared.graph.Action.{Action}
 use Rattle.comp_graph.specs.declared.graph.Action.TheVariants.{Begin, Make}

@@ -1,10 +1,10 @@
 -- Further runs of the examples: two calls of a script, traps, a post-return that ends, and parameters in memory.
 use Rattle.std.proofs.Common.{[], ◌∷◌, ◌++◌, map, replicate, Some, None, refl, ap}
 use Rattle.std.specs.Prelude.{Result, Ok}
-use Rattle.ca_types.specs.declared.types.ValType.TheVariants as type
-use Rattle.ca_types.specs.declared.value.Value.{Value}
-use Rattle.ca_types.specs.declared.value.Value.TheVariants as value
-use Rattle.ca_types.specs.declared.value.Value.TheViews as values
+use Rattle.syntax_trees.specs.declared.types.ValType.TheVariants as type
+use Rattle.syntax_trees.specs.declared.value.Value.{Value}
+use Rattle.syntax_trees.specs.declared.value.Value.TheVariants as value
+use Rattle.syntax_trees.specs.declared.value.Value.TheViews as values
 use Rattle.trace_labels.specs.declared.builtin.Builtin.TheVariants as builtin
 use Rattle.trace_labels.specs.declared.label.Label.TheVariants as line
 use Rattle.trace_labels.specs.declared.trap.TrapName.TheVariants as trap

@@ -1,13 +1,13 @@
 -- The runs of the examples that pass a pair in memory.
 use Rattle.std.proofs.Common.{◌+◌, List, [], ◌∷◌, ◌++◌, replicate, Some, None, refl, ap}
 use Rattle.std.specs.Prelude.{Result, Ok}
-use Rattle.ca_types.specs.declared.value.Value.TheVariants as value
-use Rattle.ca_types.specs.declared.value.Value.TheViews as values
+use Rattle.syntax_trees.specs.declared.value.Value.TheVariants as value
+use Rattle.syntax_trees.specs.declared.value.Value.TheViews as values
 use Rattle.trace_labels.specs.declared.label.Label.{Label}
 use Rattle.trace_labels.specs.declared.label.Label.TheVariants as line
 use Rattle.trace_labels.specs.declared.trap.TrapName.TheVariants as trap
 use Rattle.world.specs.declared.run_end.RunEnd.TheVariants.{Done, Trapped}
-use Rattle.ca_types.specs.declared.value.Value.{Value}
+use Rattle.syntax_trees.specs.declared.value.Value.{Value}
 use Rattle.value_lift.specs.declared.trap.LiftTrap.{LiftTrap}
 use Rattle.comp_graph.specs.Graph.{Graph}
 use Rattle.script_reader.specs.Script.{Script}

@@ -1,22 +1,22 @@
 -- How the functions of the examples pass their arguments and results: types and values are taken by their folds.
 use Rattle.std.proofs.Common.{◌≡◌, ◌∙◌, ◌+◌, ℕ, ◌%◌, ◌^◌, ◌++◌, List, [], ◌∷◌, map, length, replicate, Option, Some, refl, ap, sym}
 use Rattle.std.specs.Prelude.{Ok, Err}
-use Rattle.ca_types.specs.declared.types.ValType.{ValType, out-ValType}
-use Rattle.ca_types.specs.declared.types.Param.{Param}
-use Rattle.ca_types.specs.declared.types.Case.{Case}
-use Rattle.ca_types.specs.declared.types.Field.{Field}
-use Rattle.ca_types.specs.declared.types.ValType.TheOpen as F
-use Rattle.ca_types.specs.declared.types.ValType.TheFolds.{map-ValType}
-use Rattle.ca_types.specs.declared.types.ValType.TheViews as types
-use Rattle.ca_types.specs.declared.types.ValType.TheVariants as leaves
-use Rattle.ca_types.specs.declared.value.Value.{Value, roll-Value}
-use Rattle.ca_types.specs.declared.value.Value.TheOpen as V
-use Rattle.ca_types.specs.declared.value.Value.TheViews as values
-use Rattle.ca_types.specs.declared.value.Value.TheVariants as plain
-use Rattle.ca_types.specs.declared.value.Value.TheFolds.{fold-roll-Value, map-Value}
-use Rattle.ca_types.specs.declared.core_type.CoreType.TheVariants.{I32}
-use Rattle.ca_types.specs.Layout.{laid, laid_step}
-use Rattle.ca_types.specs.Flat.{flat, flat_step}
+use Rattle.syntax_trees.specs.declared.types.ValType.{ValType, out-ValType}
+use Rattle.syntax_trees.specs.declared.types.Param.{Param}
+use Rattle.syntax_trees.specs.declared.types.Case.{Case}
+use Rattle.syntax_trees.specs.declared.types.Field.{Field}
+use Rattle.syntax_trees.specs.declared.types.ValType.TheOpen as F
+use Rattle.syntax_trees.specs.declared.types.ValType.TheFolds.{map-ValType}
+use Rattle.syntax_trees.specs.declared.types.ValType.TheViews as types
+use Rattle.syntax_trees.specs.declared.types.ValType.TheVariants as leaves
+use Rattle.syntax_trees.specs.declared.value.Value.{Value, roll-Value}
+use Rattle.syntax_trees.specs.declared.value.Value.TheOpen as V
+use Rattle.syntax_trees.specs.declared.value.Value.TheViews as values
+use Rattle.syntax_trees.specs.declared.value.Value.TheVariants as plain
+use Rattle.syntax_trees.specs.declared.value.Value.TheFolds.{fold-roll-Value, map-Value}
+use Rattle.syntax_trees.specs.declared.core_type.CoreType.TheVariants.{I32}
+use Rattle.laid_types.specs.Layout.{laid, laid_step}
+use Rattle.syntax_trees.specs.Flat.{flat, flat_step}
 use Rattle.std.specs.Int.{w8, w32, to_le_bytes}
 use Rattle.laid_types.specs.Parts.{parts_of}
 use Rattle.value_lift.specs.declared.trap.LiftWhy.TheVariants.{BadChar}

@@ -1,6 +1,6 @@
 -- The example of a number that is returned.
 use Rattle.std.proofs.Common.{◌≡◌, ◌≢◌, [], ◌∷◌, Option, Some, Result, Ok, refl, ap, sym, subst}
-use Rattle.ca_types.specs.declared.types.ValType.TheVariants as type
+use Rattle.syntax_trees.specs.declared.types.ValType.TheVariants as type
 use Rattle.value_lift.specs.declared.trap.LiftTrap.{LiftTrap}
 use Rattle.value_lower.specs.Plan.{Plan, Gives}
 use Rattle.world.specs.Control.{Back, Leaves}

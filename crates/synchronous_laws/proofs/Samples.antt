@@ -1,18 +1,18 @@
 -- The runs of the examples, in pieces between the places where values are passed.
 use Rattle.std.proofs.Common.{List, [], ◌∷◌, ◌++◌, replicate, Some, None, refl, ap}
 use Rattle.std.specs.Prelude.{Result, Ok, Err}
-use Rattle.ca_types.specs.declared.value.Value.TheVariants as value
-use Rattle.ca_types.specs.declared.value.Value.TheViews as values
+use Rattle.syntax_trees.specs.declared.value.Value.TheVariants as value
+use Rattle.syntax_trees.specs.declared.value.Value.TheViews as values
 use Rattle.trace_labels.specs.declared.builtin.Builtin.TheVariants as builtin
 use Rattle.trace_labels.specs.declared.label.Label.{Label}
 use Rattle.trace_labels.specs.declared.label.Label.TheVariants as line
 use Rattle.trace_labels.specs.declared.trap.TrapName.TheVariants as trap
 use Rattle.world.specs.declared.run_end.RunEnd.TheVariants.{Done, Trapped, Fuel}
-use Rattle.wasm_module.specs.declared.types.FuncType as core
+use Rattle.syntax_trees.specs.declared.module_types.FuncType as core
 use Rattle.wasm_store.specs.Store as stores
 use Rattle.wasm_store.specs.Instantiation.{empty}
-use Rattle.ca_types.specs.declared.types.ValType.TheVariants as type
-use Rattle.ca_types.specs.declared.value.Value.{Value}
+use Rattle.syntax_trees.specs.declared.types.ValType.TheVariants as type
+use Rattle.syntax_trees.specs.declared.value.Value.{Value}
 use Rattle.value_lift.specs.declared.trap.LiftWhy.TheVariants.{BadChar}
 use Rattle.value_lift.specs.declared.trap.LiftTrap.{LiftTrap}
 use Rattle.comp_graph.specs.Graph.{Graph}

@@ -3,17 +3,17 @@ use Rattle.std.proofs.Common.{◌≡◌, ℕ, Bool, true, false, List, [], ◌�
 use Rattle.std.specs.Option.{IsSome}
 use Rattle.std.specs.Str.{IsUtf8}
 use lib.Utf8.{encode}
-use Rattle.wasm_module.specs.declared.module.ModuleTree.{ModuleTree}
-use Rattle.wasm_module.specs.Expr.{End}
+use Rattle.syntax_trees.specs.declared.module.ModuleTree.{ModuleTree}
+use Rattle.syntax_trees.specs.Expr.{End}
 use Rattle.wasm_typing.specs.Modules.{Typed}
 use Rattle.wasm_typing.specs.Finding.{first_fault}
 use Rattle.wasm_typing.proofs.Deciding.{fault_free}
-use Rattle.ca_types.specs.declared.value.Value.TheVariants as value
-use Rattle.ca_types.specs.declared.types.ValType.{ValType}
-use Rattle.ca_types.specs.declared.types.Case.{Case}
-use Rattle.ca_types.specs.declared.types.Field.{Field}
-use Rattle.ca_types.specs.declared.types.ValType.TheVariants as type
-use Rattle.ca_types.specs.declared.types.ValType.TheOpen as F
+use Rattle.syntax_trees.specs.declared.value.Value.TheVariants as value
+use Rattle.syntax_trees.specs.declared.types.ValType.{ValType}
+use Rattle.syntax_trees.specs.declared.types.Case.{Case}
+use Rattle.syntax_trees.specs.declared.types.Field.{Field}
+use Rattle.syntax_trees.specs.declared.types.ValType.TheVariants as type
+use Rattle.syntax_trees.specs.declared.types.ValType.TheOpen as F
 use Rattle.laid_types.specs.Lists.{has_list}
 use Rattle.laid_types.specs.Gathered.{lists, list_over}
 use Rattle.laid_types.specs.Parts.{parts_case}

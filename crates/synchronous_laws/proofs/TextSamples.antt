@@ -2,9 +2,9 @@
 use Rattle.std.proofs.Common.{List, [], ◌∷◌, refl, sym, subst}
 use Rattle.std.specs.Prelude.{unwrap_or}
 use Rattle.wasm_store.specs.Store.{Host as HostFunction, found_at}
-use Rattle.ca_types.specs.declared.value.Value.{Value}
-use Rattle.ca_types.specs.declared.value.Value.TheVariants as value
-use Rattle.ca_types.specs.declared.value.Value.TheViews as values
+use Rattle.syntax_trees.specs.declared.value.Value.{Value}
+use Rattle.syntax_trees.specs.declared.value.Value.TheVariants as value
+use Rattle.syntax_trees.specs.declared.value.Value.TheViews as values
 use Rattle.value_lower.specs.Plan.{Plan, Gives}
 use Rattle.value_lower.specs.Lowering.{text_in}
 use Rattle.lowering_laws.specs.ApartPlaces.{Apart}

@@ -10,8 +10,8 @@ use Rattle.wasm_store.specs.Typed.{StackTyped}
 use Rattle.wasm_store.specs.Laws.{MoveTyped}
 use Rattle.wasm_store.proofs.Lists.{all_at}
 use Rattle.wasm_store.proofs.Moving.{moves_typed}
-use Rattle.ca_types.specs.declared.types.ValType.{ValType}
-use Rattle.ca_types.specs.declared.value.Value.{Value}
+use Rattle.syntax_trees.specs.declared.types.ValType.{ValType}
+use Rattle.syntax_trees.specs.declared.value.Value.{Value}
 use Rattle.value_lift.specs.declared.trap.LiftTrap.{LiftTrap}
 use Rattle.value_lift.specs.declared.counting.LiftOf.TheVariants as whole
 use Rattle.value_lift.specs.Lifting.{most}

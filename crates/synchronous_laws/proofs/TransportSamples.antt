@@ -5,10 +5,10 @@ use Rattle.std.specs.Str.{IsUtf8}
 use lib.Utf8.{encode}
 use Rattle.wasm_store.specs.Store.{Host as HostFunction, found_at}
 use Rattle.wasm_store.specs.Stack.{Given}
-use Rattle.ca_types.specs.declared.types.ValType.TheVariants as type
-use Rattle.ca_types.specs.declared.value.Value.{Value}
-use Rattle.ca_types.specs.declared.value.Value.TheVariants as value
-use Rattle.ca_types.specs.declared.value.Value.TheViews as values
+use Rattle.syntax_trees.specs.declared.types.ValType.TheVariants as type
+use Rattle.syntax_trees.specs.declared.value.Value.{Value}
+use Rattle.syntax_trees.specs.declared.value.Value.TheVariants as value
+use Rattle.syntax_trees.specs.declared.value.Value.TheViews as values
 use Rattle.value_lift.specs.declared.counting.LiftOf.TheVariants as whole
 use Rattle.value_lift.specs.Lifting.{most}
 use Rattle.value_lift.specs.Standing.{counts}

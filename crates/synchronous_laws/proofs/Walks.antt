@@ -5,7 +5,7 @@ use Rattle.std.specs.List.{slice_get}
 use Rattle.std.proofs.lemmas.Grind.{flat_map-append}
 use Rattle.wasm_store.specs.Stack.{Stack, Given}
 use Rattle.wasm_store.specs.Step as core
-use Rattle.ca_types.specs.declared.value.Value.{Value}
+use Rattle.syntax_trees.specs.declared.value.Value.{Value}
 use Rattle.value_lift.specs.declared.trap.LiftTrap.{LiftTrap}
 use Rattle.value_lower.specs.Plan.{Plan, Gives}
 use Rattle.comp_graph.specs.declared.graph.FuncRef.TheVariants as func_ref

@@ -1,29 +1,29 @@
 -- Small graphs and stores, whose runs the laws `examples` have (Component Model, CanonicalABI.md, `canon lift` and `canon lower`;
 -- Core 2.0, section 4.4).
 use Rattle.std.specs.Prelude.{◌≡◌, ◌+◌, ℕ, pos, codes, false, List, [], ◌∷◌, ◌++◌, map, replicate, Option, Some, None}
-use Rattle.wasm_module.specs.declared.types.ValType.TheVariants.{I32}
-use Rattle.wasm_module.specs.declared.types.FuncType as core
-use Rattle.wasm_module.specs.declared.types.Limits.{Limits}
-use Rattle.wasm_module.specs.declared.instr.Instr.TheVariants.{Drop, LocalGet, I32Const, Numeric}
-use Rattle.wasm_module.specs.declared.instr.Instr.TheVariants as instr
-use Rattle.wasm_module.specs.declared.instr.NumericOp.TheVariants.{Binary}
-use Rattle.wasm_module.specs.declared.instr.Width.TheVariants.{W32}
-use Rattle.wasm_module.specs.declared.instr.BinaryOp.TheVariants.{Add}
-use Rattle.wasm_module.specs.declared.module.ImportDesc.TheVariants as wanted
-use Rattle.wasm_module.specs.declared.module.Func.{Func}
-use Rattle.wasm_module.specs.declared.module.ModuleTree.{ModuleTree}
-use Rattle.wasm_module.specs.Expr.{Expr, End, Plain}
+use Rattle.syntax_trees.specs.declared.module_types.ValType.TheVariants.{I32}
+use Rattle.syntax_trees.specs.declared.module_types.FuncType as core
+use Rattle.syntax_trees.specs.declared.module_types.Limits.{Limits}
+use Rattle.syntax_trees.specs.declared.instr.Instr.TheVariants.{Drop, LocalGet, I32Const, Numeric}
+use Rattle.syntax_trees.specs.declared.instr.Instr.TheVariants as instr
+use Rattle.syntax_trees.specs.declared.instr.NumericOp.TheVariants.{Binary}
+use Rattle.syntax_trees.specs.declared.instr.Width.TheVariants.{W32}
+use Rattle.syntax_trees.specs.declared.instr.BinaryOp.TheVariants.{Add}
+use Rattle.syntax_trees.specs.declared.module.ImportDesc.TheVariants as wanted
+use Rattle.syntax_trees.specs.declared.module.Func.{Func}
+use Rattle.syntax_trees.specs.declared.module.ModuleTree.{ModuleTree}
+use Rattle.syntax_trees.specs.Expr.{Expr, End, Plain}
 use Rattle.wasm_typing.specs.Context.{arrow}
 use Rattle.wasm_store.specs.Store.{Function, Own, Store}
 use Rattle.wasm_store.specs.Store as stores
-use Rattle.ca_types.specs.declared.types.ValType.{ValType}
-use Rattle.ca_types.specs.declared.types.ValType.TheVariants as type
-use Rattle.ca_types.specs.declared.types.ValType.TheViews as types
-use Rattle.ca_types.specs.declared.types.FuncType.{FuncType}
-use Rattle.ca_types.specs.declared.types.Param.{Param}
-use Rattle.ca_types.specs.declared.value.Value.{Value}
-use Rattle.ca_types.specs.declared.value.Value.TheVariants as value
-use Rattle.ca_types.specs.declared.value.Value.TheViews as values
+use Rattle.syntax_trees.specs.declared.types.ValType.{ValType}
+use Rattle.syntax_trees.specs.declared.types.ValType.TheVariants as type
+use Rattle.syntax_trees.specs.declared.types.ValType.TheViews as types
+use Rattle.syntax_trees.specs.declared.types.FuncType.{FuncType}
+use Rattle.syntax_trees.specs.declared.types.Param.{Param}
+use Rattle.syntax_trees.specs.declared.value.Value.{Value}
+use Rattle.syntax_trees.specs.declared.value.Value.TheVariants as value
+use Rattle.syntax_trees.specs.declared.value.Value.TheViews as values
 use Rattle.comp_graph.specs.declared.graph.CoreRef.{CoreRef}
 use Rattle.comp_graph.specs.declared.graph.FuncRef.{FuncRef}
 use Rattle.comp_graph.specs.declared.graph.FuncRef.TheVariants as func_ref

@@ -1,14 +1,14 @@
 -- What a call passes arrives, on four of the graphs of `Examples`: a number as an argument and as a result, a text as an argument, over the
 -- place that a realloc gives for it, and a pair as a result in memory.
 use Rattle.std.specs.Prelude.{◌≡◌, ℕ, false, length, List, [], ◌∷◌, replicate, Some, None, Ok}
-use Rattle.ca_types.specs.declared.types.ValType.TheVariants as type
-use Rattle.ca_types.specs.declared.value.Value.TheVariants as value
-use Rattle.ca_types.specs.declared.value.Value.TheViews as values
+use Rattle.syntax_trees.specs.declared.types.ValType.TheVariants as type
+use Rattle.syntax_trees.specs.declared.value.Value.TheVariants as value
+use Rattle.syntax_trees.specs.declared.value.Value.TheViews as values
 use Rattle.lowering_laws.specs.Settling.{Answer}
 use Rattle.lowering_laws.specs.ApartPlaces.{Apart}
 use Rattle.comp_graph.specs.declared.graph.Lower.{Lower}
 use Rattle.comp_graph.specs.Graph.{Lifted, no_options}
-use Rattle.wasm_module.specs.Expr.{End}
+use Rattle.syntax_trees.specs.Expr.{End}
 use Rattle.wasm_store.specs.Stack.{Frame, Running}
 use Rattle.script_reader.specs.Script.{Script}
 use Rattle.trace_labels.specs.declared.label.Label.{Label}

@@ -1,7 +1,7 @@
 //! Examples of the definitions, worked out by hand: an item and an instruction cost a unit each, and nothing else costs one.
 
 ghost use Rattle.std.specs.Prelude.{[], ◌∷◌, ◌++◌, Some, None, replicate};
-ghost use Rattle.ca_types.specs.declared.value.Value.TheVariants as value;
+ghost use Rattle.syntax_trees.specs.declared.value.Value.TheVariants as value;
 ghost use Rattle.trace_labels.specs.declared.builtin.Builtin.TheVariants as builtin;
 ghost use Rattle.trace_labels.specs.declared.label.Label.TheVariants as line;
 ghost use Rattle.trace_labels.specs.declared.trap.TrapName.TheVariants as trap;

@@ -1,9 +1,9 @@
 -- Where each of some values passes the test of a type, each is of the type.
 use Rattle.std.proofs.Common.{◌≡◌, subst, ℕ, zero, suc, true, List, [], ◌∷◌, Some}
 use Rattle.std.specs.List.{list_all, slice_get}
-use Rattle.ca_types.specs.declared.types.ValType.{ValType}
-use Rattle.ca_types.specs.declared.value.Value.{Value}
-use Rattle.ca_types.specs.Fits.{fits}
+use Rattle.syntax_trees.specs.declared.types.ValType.{ValType}
+use Rattle.syntax_trees.specs.declared.value.Value.{Value}
+use Rattle.syntax_trees.specs.Fits.{fits}
 use Rattle.value_lower.specs.Fitting.{AllFit}
 use Rattle.table_texts.proofs.There.{both}
 

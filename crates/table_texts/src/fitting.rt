@@ -1,13 +1,14 @@
 //! Whether values are of a type, as lowering asks.
 
 ghost use Rattle.std.specs.Prelude.{◌≡◌, ◌||◌, false, true};
-ghost use Rattle.ca_types.specs.Ends.{has_end};
-ghost use Rattle.ca_types.specs.Fits.{fits};
+ghost use Rattle.syntax_trees.specs.Ends.{has_end};
+ghost use Rattle.syntax_trees.specs.Fits.{fits};
 ghost use Rattle.laid_types.specs.Handles.{has_handle};
 ghost use Rattle.value_lower.specs.Fitting.{AllFit};
 
-use ca_types::{Value, fits};
+use ca_types::fits;
 use laid_types::{LaidType, NumberedType};
+use syntax_trees::Value;
 
 /// Whether a value is of a type.
 pub fn is_of(value: &Value, t: &NumberedType<'_>) -> bool

@@ -5,11 +5,11 @@ ghost use Rattle.laid_types.specs.SameTypes.{AreDistinct};
 
 use crate::numbers::number;
 use crate::putting::{add, put};
-use ca_types::{Shared, ValType};
 use laid_types::{LaidTypes, ValTypeLayer};
 use link_values::ValueTypes;
 use std::alloc::Global;
 use std::test::Fail;
+use syntax_trees::{Shared, ValType};
 use type_texts::type_of;
 
 /// How words make a type.

@@ -5,12 +5,11 @@ ghost use Rattle.std.specs.List.{list_all};
 ghost use Rattle.laid_types.specs.Layers.{AreThere, part_numbers};
 ghost use Rattle.table_texts.specs.There.{is_there, layer_there};
 
-use ca_base::Name;
-use ca_types::{Case, Field, Shared, ValType};
 use laid_types::{LabelledCase, LabelledPart, LaidTypes, ValTypeLayer};
 use link_values::ValueTypes;
 use std::alloc::Global;
 use std::test::Fail;
+use syntax_trees::{Case, Field, Name, Shared, ValType};
 
 /// Whether a number, if there is one, is below a count.
 fn is_there(count: usize, number: Option<usize>) -> bool

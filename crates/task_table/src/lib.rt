@@ -16,11 +16,11 @@ mod refusal;
 mod slot;
 mod table;
 
-use ca_base::Seq;
 pub use caller::{Called, Caller};
 pub use errand::{Callee, Errand};
 pub use refusal::{EventError, LendError};
 pub use slot::TaskSlot;
+use syntax_trees::Seq;
 pub use table::Tasks;
 
 /// A list of core values.

@@ -7,7 +7,7 @@ ghost use Rattle.task_table.specs.Tasks.{with_number, without, by_of, is_among_c
 
 use crate::caller::Caller;
 use crate::slot::TaskSlot;
-use ca_base::Memory;
+use faults::Memory;
 use std::alloc::Global;
 use std::collections::BTreeSet;
 

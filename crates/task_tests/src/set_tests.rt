@@ -5,8 +5,8 @@
 //! ready ones where 4 and 5 are told, and `a:1.4,5` whether there is one. A set that wasn't made answers `no`.
 
 use crate::texts::{number_of, numbers_of, write_numbers, write_value};
-use ca_base::Memory;
 use cases::{Acts, Answers, Steps, acted, write_acts};
+use faults::Memory;
 use std::alloc::{AllocError, Global};
 use std::test::Fail;
 use waitables::{Nums, SetRefusal, Sets};

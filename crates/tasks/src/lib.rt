@@ -18,11 +18,11 @@ mod subtask;
 mod subtask_state;
 mod task;
 
-use ca_base::Seq;
 pub use event::{Asked, BlockedAt, TaskEvent, TaskTrap};
 pub use phase::{Caller, Cancellation, Phase, Resolution};
 pub use subtask::Subtask;
 pub use subtask_state::SubtaskState;
+use syntax_trees::Seq;
 pub use task::Task;
 
 /// A list of table indices.

@@ -6,7 +6,7 @@ ghost use Rattle.tasks.specs.SubtaskHistory.{SubtaskHistory, SubtaskStandsFor, a
 
 use crate::Nums;
 use crate::subtask_state::SubtaskState;
-use ca_base::Memory;
+use faults::Memory;
 use std::alloc::Global;
 use std::marker::Model;
 

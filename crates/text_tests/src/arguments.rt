@@ -1,10 +1,10 @@
 //! What is read of the text of arguments, written as traces write it.
 
 use crate::reading::{told, unbracketed};
-use ca_base::{Memory, Seq};
-use ca_types::{Param, ValType, Value, Values};
+use faults::Memory;
 use std::alloc::Global;
 use std::test::Fail;
+use syntax_trees::{Param, Seq, ValType, Value, Values};
 use type_texts::{params_of, types_of};
 use value_reader::read_arguments;
 

@@ -1,8 +1,7 @@
 //! Exports of texts.
 
-use ca_base::{Name, Seq};
-use ca_types::{Export, Exports, FuncType, Param, Shared, ValType};
 use std::alloc::{AllocError, Global};
+use syntax_trees::{Export, Exports, FuncType, Name, Param, Seq, Shared, ValType};
 
 /// The type of lists of u32.
 fn numbers(alloc: Global) -> Result<Shared<ValType>, AllocError> {

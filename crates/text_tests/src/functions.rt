@@ -1,9 +1,10 @@
 //! Core functions, and functions that hold handles.
 
 use crate::types::{word, write_core};
-use ca_types::{CoreFunc, FlatKind, FuncType, flat_func};
+use ca_types::flat_func;
 use std::alloc::{AllocError, Global};
 use std::test::Fail;
+use syntax_trees::{CoreFunc, FlatKind, FuncType};
 use type_texts::func_of;
 use value_reader::func_has_host_type;
 

@@ -1,11 +1,11 @@
 //! Long texts, and bytes that are no text.
 
 use crate::reading::value_in;
-use ca_base::Memory;
-use ca_types::{ValType, Value};
 use cases::bytes_of;
+use faults::Memory;
 use std::alloc::{AllocError, Global};
 use std::test::Fail;
+use syntax_trees::{ValType, Value};
 use type_texts::type_of;
 
 /// How many elements a list or bytes a text has.

@@ -1,9 +1,9 @@
 //! What is read of a text, written as traces write it.
 
-use ca_base::Memory;
-use ca_types::{ValType, Value};
+use faults::Memory;
 use std::alloc::Global;
 use std::test::Fail;
+use syntax_trees::{ValType, Value};
 use type_texts::{type_of, value_told};
 use value_reader::read_value;
 

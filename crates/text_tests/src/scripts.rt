@@ -1,12 +1,12 @@
 //! The outcome of the reading of a script as text.
 
 use crate::exports::exports_of;
-use ca_base::MemoryOr;
-use ca_types::{Exports, Value};
+use faults::MemoryOr;
 use script_reader::{Call, Item, Script, ScriptFault, read_script};
 use std::alloc::{AllocError, Global};
 use std::fmt::Write;
 use std::test::Fail;
+use syntax_trees::{Exports, Value};
 
 /// Writes a number.
 fn write_number(text: &mut String, number: u32) -> Result<(), AllocError> {

@@ -1,10 +1,12 @@
 //! What is told of types.
 
 use crate::kinds::What;
-use ca_types::{CoreType, ValType, align, flatten, has_end, size};
+use ca_types::{flatten, has_end};
+use laid_types::{align, size};
 use std::alloc::{AllocError, Global};
 use std::fmt::Write;
 use std::test::Fail;
+use syntax_trees::{CoreType, ValType};
 use type_texts::{type_of, type_told};
 use value_reader::has_host_type;
 

@@ -1,9 +1,9 @@
 //! What a run leaves in the tables of its instances and in its memories.
 
 use crate::label::Channel;
-use ca_base::Seq;
 use std::alloc::Global;
 use std::fmt;
+use syntax_trees::Seq;
 
 /// An end of a stream or a future.
 #[derive(Clone, Copy)]

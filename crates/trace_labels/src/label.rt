@@ -3,9 +3,9 @@
 use crate::builtin::Builtin;
 use crate::trap::TrapName;
 use crate::typed::{TypedValue, TypedValues};
-use ca_base::{Name, Seq};
 use std::alloc::Global;
 use std::fmt;
+use syntax_trees::{Name, Seq};
 
 /// A stream or a future, by its number.
 #[derive(Clone, Copy)]

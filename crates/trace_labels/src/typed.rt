@@ -1,7 +1,6 @@
 //! Values with their types.
 
-use ca_base::Seq;
-use ca_types::{Shared, ValType, Value};
+use syntax_trees::{Seq, Shared, ValType, Value};
 
 /// A value with its type, which it shares with other values. The value should be of the type (`fits`); of another one the
 /// text says nothing.

@@ -3,7 +3,7 @@
 use Rattle.std.specs.Prelude.{ℕ, List, [], ◌∷◌, ◌++◌, length, Option, Some, None, codes}
 use Rattle.std.specs.List.{flat_map}
 use Rattle.std.specs.Fmt.{decimal}
-use Rattle.ca_base.specs.Texts.{separated}
+use Rattle.syntax_trees.specs.Texts.{separated}
 use Rattle.trace_labels.specs.declared.label.Copied.{Copied}
 use Rattle.trace_labels.specs.declared.label.Copied.TheVariants.{Units, Values}
 use Rattle.trace_labels.specs.declared.label.Label.{Label}
@@ -11,7 +11,7 @@ use Rattle.trace_labels.specs.declared.label.Label.TheVariants.{Take, Cancel, Ch
 use Rattle.trace_labels.specs.declared.typed.TypedValue.{TypedValue}
 use Rattle.trace_labels.specs.Names.{builtin_text, trap_text}
 use Rattle.trace_labels.specs.Parts.{instance_text, task_text, channel_text, reason_text}
-use Rattle.ca_types.specs.NameText.{name_text}
+use Rattle.syntax_trees.specs.NameText.{name_text}
 use Rattle.trace_show.specs.Typed.{typed_text, each_typed_text, count_of}
 
 -- a list, in parentheses

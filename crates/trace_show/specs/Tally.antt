@@ -2,8 +2,8 @@
 -- are unsigned 32-bit integers, and the last of these lines. Both counts are modulo 2^64.
 use Rattle.std.specs.Prelude.{ℕ, ◌+◌, ◌-◌, ◌%◌, ◌^◌, List, [], length, take}
 use Rattle.std.specs.List.{fold, sum_by}
-use Rattle.ca_types.specs.declared.value.Value.{Value, out-Value}
-use Rattle.ca_types.specs.declared.value.Value.TheOpen.{Value-F}
+use Rattle.syntax_trees.specs.declared.value.Value.{Value, out-Value}
+use Rattle.syntax_trees.specs.declared.value.Value.TheOpen.{Value-F}
 use Rattle.trace_labels.specs.declared.label.Copied.{Copied}
 use Rattle.trace_labels.specs.declared.label.Copied.TheVariants.{Units, Values}
 use Rattle.trace_labels.specs.declared.label.Label.{Label}

@@ -1,8 +1,8 @@
 -- A trace over a sink of bytes: what the sink took, and behind it the text that the trace keeps back, are the text put so
 -- far. So the sink took a front of that text, and all of it where nothing is kept back.
 use Rattle.std.specs.Prelude.{◌≡◌, ℕ, ◌≤◌, List, Option, Result, Ok, Err}
-use Rattle.ca_base.specs.declared.memory.MemoryOr.{MemoryOr}
-use Rattle.ca_base.specs.declared.memory.MemoryOr.TheVariants.{Memory, Fault}
+use Rattle.faults.specs.declared.memory.MemoryOr.{MemoryOr}
+use Rattle.faults.specs.declared.memory.MemoryOr.TheVariants.{Memory, Fault}
 use Rattle.ca_io.specs.Bytes.{grown}
 use Rattle.ca_io.specs.Causes.{Rose}
 

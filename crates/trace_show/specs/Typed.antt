@@ -1,7 +1,7 @@
 -- The texts of values with their types.
 use Rattle.std.specs.Prelude.{ℕ, List, length, codes}
-use Rattle.ca_base.specs.Texts.{separated}
-use Rattle.ca_types.specs.ValueText.{value_text}
+use Rattle.syntax_trees.specs.Texts.{separated}
+use Rattle.syntax_trees.specs.ValueText.{value_text}
 use Rattle.trace_labels.specs.declared.typed.TypedValue.{TypedValue}
 use Rattle.trace_labels.specs.declared.typed.TypedValues.{TypedValues}
 

@@ -10,9 +10,11 @@ ghost use Rattle.trace_show.specs.EntryText.{end_text, entry_text};
 ghost use Rattle.trace_show.specs.DumpText.{numbered, instance_lines, memory_lines, row_text, row_of, rows_text, dump_text};
 
 use crate::lines::push_str;
-use ca_base::{Bytes, Memory, Seq, Text, push_all, push_separated};
+use faults::Memory;
 use std::alloc::Global;
+use syntax_trees::{Bytes, Seq};
 use trace_labels::{Channel, Dump, EndState, Entry, LiveEntry, Side};
+use value_texts::{Text, push_all, push_separated};
 
 /// The bytes of a page of memory.
 const PAGE: usize = 65_536;

@@ -5,10 +5,11 @@ ghost use Rattle.trace_labels.specs.declared.label.Label.TheVariants.{Take, Choo
 ghost use Rattle.trace_show.specs.LabelText.{label_text, words_text, args_text, result_text, copied_text};
 
 use crate::values::{push_each_typed, push_typed};
-use ca_base::{Bytes, Memory, Name, Seq, Text, push_all, push_separated};
+use faults::Memory;
 use std::alloc::Global;
+use syntax_trees::{Bytes, Name, Seq};
 use trace_labels::{BlockReason, Copied, Label, TrapName, TypedValue};
-use value_texts::push_name;
+use value_texts::{Text, push_all, push_name, push_separated};
 
 /// Appends a text.
 pub(crate) fn push_str(text: &str, to: &mut Vec<u8>) -> Result<(), Memory>

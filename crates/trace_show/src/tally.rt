@@ -5,7 +5,7 @@ ghost use Rattle.std.specs.List.{sum_by};
 ghost use Rattle.trace_labels.specs.declared.label.Label.{Label};
 ghost use Rattle.trace_show.specs.Tally.{number_in, copied_count, copied_sum, count_in, sum_in, nothing, with_lines, counted};
 
-use ca_types::Value;
+use syntax_trees::Value;
 use trace_labels::{Copied, Label};
 
 /// A value's number, which is 0 where the value is no unsigned 32-bit integer.

@@ -9,8 +9,8 @@ ghost use Rattle.trace_show.specs.Trace.{put_so_far, HasPutCause};
 
 use crate::lines::push_label;
 use crate::tally::{with_count, with_sum};
-use ca_base::{Memory, MemoryOr};
 use ca_io::{Failed, Sink, write_all};
+use faults::{Memory, MemoryOr};
 use std::alloc::Global;
 use trace_labels::Label;
 

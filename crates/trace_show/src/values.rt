@@ -1,12 +1,12 @@
 //! The texts of values with their types.
 
 ghost use Rattle.std.specs.Prelude.{◌≡◌, ◌++◌, OnOk};
-ghost use Rattle.ca_types.specs.ValueText.{value_text};
+ghost use Rattle.syntax_trees.specs.ValueText.{value_text};
 ghost use Rattle.trace_show.specs.Typed.{typed_text, each_typed_text};
 
-use ca_base::Memory;
-use ca_types::{ValType, Value};
+use faults::Memory;
 use std::alloc::Global;
+use syntax_trees::{ValType, Value};
 use trace_labels::{TypedValue, TypedValues};
 use value_texts::value_text;
 

@@ -1,11 +1,11 @@
 //! What is left in tables and memories.
 
 use crate::labels::{number_at, numbers_of, tasks};
-use ca_base::Seq;
 use cases::{Answers, bytes_of};
 use std::alloc::Global;
 use std::str::from_utf8;
 use std::test::Fail;
+use syntax_trees::Seq;
 use trace_labels::{Channel, Dump, EndState, Entry, LiveEntry, Side};
 use trace_show::dump_text;
 

@@ -1,8 +1,8 @@
 //! Labels of words and numbers.
 
-use ca_base::Seq;
 use std::alloc::{AllocError, Global};
 use std::test::Fail;
+use syntax_trees::Seq;
 use trace_labels::{BlockReason, Builtin, Channel, Copied, Label, TrapName};
 
 /// The numbers of a text, with spaces between them.

@@ -1,10 +1,10 @@
 //! The names of built-ins and traps, and texts of names.
 
 use crate::variants::{builtin_of, trap_of};
-use ca_base::Name;
 use cases::{Answers, check_paragraphs};
 use std::alloc::Global;
 use std::test::Fail;
+use syntax_trees::Name;
 use trace_show::name_text;
 use type_texts::text_of;
 

@@ -5,12 +5,13 @@ ghost use Rattle.ca_io.specs.Bytes.{grown};
 ghost use Rattle.trace_show.specs.LabelText.{label_text};
 
 use crate::values::of_one_type;
-use ca_base::{Memory, MemoryOr, Seq};
 use ca_io::{Failed, MemSink, NullSink, Sink};
 use cases::Answers;
+use faults::{Memory, MemoryOr};
 use std::alloc::{AllocError, Global};
 use std::str::from_utf8;
 use std::test::Fail;
+use syntax_trees::Seq;
 use trace_labels::{Channel, Copied, Label};
 use trace_show::{ROOM, Trace};
 

@@ -1,10 +1,10 @@
 //! Lines with values.
 
 use crate::telling::line_told;
-use ca_base::{Name, Seq};
-use ca_types::{ValType, Value, fits};
+use ca_types::fits;
 use std::alloc::Global;
 use std::test::Fail;
+use syntax_trees::{Name, Seq, ValType, Value};
 use trace_labels::{Channel, Copied, Label, TypedValue, TypedValues};
 use type_texts::{type_of, value_of, values_of};
 

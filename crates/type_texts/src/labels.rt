@@ -1,9 +1,8 @@
 //! What labels make.
 
 use crate::stack::Stack;
-use ca_base::{Name, Seq};
-use ca_types::{Case, Field, Shared, ValType};
 use std::alloc::Global;
+use syntax_trees::{Case, Field, Name, Seq, Shared, ValType};
 
 /// Types that later words take as their parts.
 pub(crate) type Types = Stack<Shared<ValType>>;

@@ -1,7 +1,7 @@
 //! What words stand for, of which later words take their parts.
 
-use ca_base::Seq;
 use std::alloc::Global;
+use syntax_trees::Seq;
 
 /// What words stand for. A later word takes the last ones as its parts.
 #[derive(Drop)]

@@ -1,9 +1,10 @@
 //! The texts of types and values.
 
-use ca_types::{ValType, Value, fits};
+use ca_types::fits;
 use std::alloc::Global;
 use std::str::from_utf8;
 use std::test::Fail;
+use syntax_trees::{ValType, Value};
 use value_texts::{type_text, value_text};
 
 /// Bytes as text. It fails if they are none, or if a line feed is among them.

@@ -2,10 +2,9 @@
 
 use crate::labels::{Types, alike, all_labelled};
 use crate::stack::Stack;
-use ca_base::{Name, Seq};
-use ca_types::{FuncType, Param, Shared, ValType};
 use std::alloc::Global;
 use std::test::Fail;
+use syntax_trees::{FuncType, Name, Param, Seq, Shared, ValType};
 
 /// A type without parts.
 fn plain(word: &str) -> Option<ValType> {

@@ -1,11 +1,10 @@
 //! Values of texts.
 
 use crate::stack::Stack;
-use ca_base::{Name, Seq};
-use ca_types::{Boxed, Handle, Value};
 use std::alloc::Global;
 use std::str::FromStr;
 use std::test::Fail;
+use syntax_trees::{Boxed, Handle, Name, Seq, Value};
 
 /// Values that later words take as their parts.
 type Values = Stack<Value>;

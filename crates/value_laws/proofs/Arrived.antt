@@ -1,8 +1,8 @@
 -- What is lowered beside a table arrives.
 use Rattle.std.proofs.Common.{◌≡◌, ◌*◌, ◌<◌, ℕ, suc, List, [], ◌∷◌, map, length, Some, refl, ap, sym, subst, arith}
-use Rattle.ca_types.specs.declared.types.ValType.{ValType}
-use Rattle.ca_types.specs.declared.value.Value.{Value}
-use Rattle.ca_types.specs.Layout.{laid}
+use Rattle.syntax_trees.specs.declared.types.ValType.{ValType}
+use Rattle.syntax_trees.specs.declared.value.Value.{Value}
+use Rattle.laid_types.specs.Layout.{laid}
 use Rattle.handle_table.specs.Slots.{Slots, entry_at}
 use Rattle.handle_table.specs.Sound.{IsSound}
 use Rattle.value_lift.specs.Stored.{AreStored}

@@ -1,17 +1,17 @@
 -- A value of a type that is lowered into core values, with what enters its handles: the plain value that has the same core values, which carries it.
 use Rattle.std.proofs.Common.{◌≡◌, ◌*◌, ◌<◌, ◌^◌, ℕ, Bool, List, [], ◌∷◌, ◌++◌, map, length, Option, Some, None, refl}
-use Rattle.ca_types.specs.declared.types.ValType.{ValType, out-ValType}
-use Rattle.ca_types.specs.declared.types.Case.{Case}
-use Rattle.ca_types.specs.declared.types.Field.{Field}
-use Rattle.ca_types.specs.declared.types.ValType.TheOpen as F
-use Rattle.ca_types.specs.declared.types.ValType.TheViews as types
-use Rattle.ca_types.specs.declared.types.ValType.TheVariants as leaves
-use Rattle.ca_types.specs.declared.value.Value.{Value, roll-Value}
-use Rattle.ca_types.specs.declared.value.Value.TheOpen as V
-use Rattle.ca_types.specs.declared.value.Value.TheViews as values
-use Rattle.ca_types.specs.declared.value.Value.TheVariants as plain
-use Rattle.ca_types.specs.Layout.{laid}
-use Rattle.ca_types.specs.Flat.{flat}
+use Rattle.syntax_trees.specs.declared.types.ValType.{ValType, out-ValType}
+use Rattle.syntax_trees.specs.declared.types.Case.{Case}
+use Rattle.syntax_trees.specs.declared.types.Field.{Field}
+use Rattle.syntax_trees.specs.declared.types.ValType.TheOpen as F
+use Rattle.syntax_trees.specs.declared.types.ValType.TheViews as types
+use Rattle.syntax_trees.specs.declared.types.ValType.TheVariants as leaves
+use Rattle.syntax_trees.specs.declared.value.Value.{Value, roll-Value}
+use Rattle.syntax_trees.specs.declared.value.Value.TheOpen as V
+use Rattle.syntax_trees.specs.declared.value.Value.TheViews as values
+use Rattle.syntax_trees.specs.declared.value.Value.TheVariants as plain
+use Rattle.laid_types.specs.Layout.{laid}
+use Rattle.syntax_trees.specs.Flat.{flat}
 use Rattle.laid_types.specs.Parts.{parts_of, parts_case, part_at}
 use Rattle.handle_table.specs.Slots.{Slots}
 use Rattle.value_lift.specs.Leaves.{part_in}

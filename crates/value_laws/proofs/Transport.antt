@@ -1,8 +1,8 @@
 -- A copy transports its elements.
 use Rattle.std.proofs.Common.{◌≡◌, ◌∙◌, ℕ, Bool, true, false, List, length, Option, Ok, Err, refl, ap, sym, subst, arith}
 use Rattle.std.proofs.lemmas.List.{length-map}
-use Rattle.ca_types.specs.declared.types.ValType.{ValType}
-use Rattle.ca_types.specs.declared.value.Value.{Value}
+use Rattle.syntax_trees.specs.declared.types.ValType.{ValType}
+use Rattle.syntax_trees.specs.declared.value.Value.{Value}
 use Rattle.res_handles.specs.declared.handle.Handle.{Handle}
 use Rattle.res_handles.specs.declared.entry.EntryView.{EntryView}
 use Rattle.res_handles.specs.declared.entry.EntryView.TheVariants as seen

@@ -1,9 +1,9 @@
 -- What is lowered beside a table arrives (Component Model, CanonicalABI.md, "Storing", "Flat Lowering"): where the places that reallocs
 -- answer lie apart, a plain value stands at its place, or in its core values, whose indices name in the table what the lowered value had.
 use Rattle.std.specs.Prelude.{◌≡◌, ◌<◌, ℕ, true, List, [], ◌∷◌, length, Option, Result}
-use Rattle.ca_types.specs.declared.types.ValType.{ValType}
-use Rattle.ca_types.specs.declared.value.Value.{Value}
-use Rattle.ca_types.specs.Fits.{fits}
+use Rattle.syntax_trees.specs.declared.types.ValType.{ValType}
+use Rattle.syntax_trees.specs.declared.value.Value.{Value}
+use Rattle.syntax_trees.specs.Fits.{fits}
 use Rattle.handle_table.specs.History.{Event}
 use Rattle.handle_table.specs.Slots.{Slots, StandsFor}
 use Rattle.value_lift.specs.Stored.{IsStored, AreStored, IsFlattened}

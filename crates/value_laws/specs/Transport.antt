@@ -2,8 +2,8 @@
 -- values that stood in the writer's memory stand in the reader's, at its place and in order; where handles and ends are, what the writer's
 -- indices named is what the reader's name.
 use Rattle.std.specs.Prelude.{◌≡◌, ◌<◌, ◌^◌, ℕ, List, [], ◌∷◌, Option}
-use Rattle.ca_types.specs.declared.types.ValType.{ValType}
-use Rattle.ca_types.specs.declared.value.Value.{Value}
+use Rattle.syntax_trees.specs.declared.types.ValType.{ValType}
+use Rattle.syntax_trees.specs.declared.value.Value.{Value}
 use Rattle.laid_types.specs.Known.{Numbered}
 use Rattle.handle_table.specs.History.{Event}
 use Rattle.handle_table.specs.Slots.{StandsFor}

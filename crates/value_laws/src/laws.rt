@@ -1,7 +1,7 @@
 //! What holds of values with handles and ends.
 
 ghost use Rattle.std.specs.Prelude.{ℕ, List};
-ghost use Rattle.ca_types.specs.declared.types.ValType.{ValType};
+ghost use Rattle.syntax_trees.specs.declared.types.ValType.{ValType};
 ghost use Rattle.value_lower.specs.Tables.{tabled, IsEntry};
 ghost use Rattle.copy_engine.specs.Answering.{Setting};
 ghost use Rattle.copy_engine.specs.Hosted.{hosted_rooms};

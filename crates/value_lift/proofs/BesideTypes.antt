@@ -1,14 +1,14 @@
 -- Over two ledgers that go beside each other the values of every type are lifted alike.
 use Rattle.std.proofs.Common.{◌≡◌, ◌∙◌, ℕ, zero, suc, List, [], ◌∷◌, map, Option, Some, None, Result, Ok, refl, ap, sym, subst}
 use Rattle.std.specs.List.{AllByRecursion}
-use Rattle.ca_types.specs.declared.types.ValType.{ValType, out-ValType, roll-ValType}
-use Rattle.ca_types.specs.declared.types.Case.{Case}
-use Rattle.ca_types.specs.declared.types.Field.{Field}
-use Rattle.ca_types.specs.declared.types.ValType.TheViews as types
-use Rattle.ca_types.specs.declared.types.ValType.TheViews.{roll-Case, roll-Field}
-use Rattle.ca_types.specs.declared.types.ValType.TheVariants.{rolls-Record, rolls-Variant, rolls-Tuple, rolls-Option, rolls-Result}
-use Rattle.ca_types.specs.declared.types.ValType.TheOpen as F
-use Rattle.ca_types.specs.declared.types.ValType.TheFolds.{ind-ValType, map-ValType, map-Case, map-Field}
+use Rattle.syntax_trees.specs.declared.types.ValType.{ValType, out-ValType, roll-ValType}
+use Rattle.syntax_trees.specs.declared.types.Case.{Case}
+use Rattle.syntax_trees.specs.declared.types.Field.{Field}
+use Rattle.syntax_trees.specs.declared.types.ValType.TheViews as types
+use Rattle.syntax_trees.specs.declared.types.ValType.TheViews.{roll-Case, roll-Field}
+use Rattle.syntax_trees.specs.declared.types.ValType.TheVariants.{rolls-Record, rolls-Variant, rolls-Tuple, rolls-Option, rolls-Result}
+use Rattle.syntax_trees.specs.declared.types.ValType.TheOpen as F
+use Rattle.syntax_trees.specs.declared.types.ValType.TheFolds.{ind-ValType, map-ValType, map-Case, map-Field}
 use Rattle.laid_types.specs.Parts.{parts_case}
 use Rattle.value_lift.specs.declared.named.Named.{Named}
 use Rattle.value_lift.specs.declared.named.Named.TheVariants as named

@@ -1,9 +1,9 @@
 -- What lifts a type's values over the plain ledger, from the type's outer layer.
 use Rattle.std.proofs.Common.{◌≡◌, ℕ, List, Option}
-use Rattle.ca_types.specs.declared.types.ValType.{ValType}
-use Rattle.ca_types.specs.declared.types.Case.{Case}
-use Rattle.ca_types.specs.declared.types.Field.{Field}
-use Rattle.ca_types.specs.declared.types.ValType.TheOpen as F
+use Rattle.syntax_trees.specs.declared.types.ValType.{ValType}
+use Rattle.syntax_trees.specs.declared.types.Case.{Case}
+use Rattle.syntax_trees.specs.declared.types.Field.{Field}
+use Rattle.syntax_trees.specs.declared.types.ValType.TheOpen as F
 use Rattle.value_lift.specs.Answers.{counted, counting, plainly}
 use Rattle.value_lift.specs.Pieces.{Part}
 use Rattle.value_lift.specs.Lifting.{lift, lift_words, layer_of, lift_case, lift_word_case}

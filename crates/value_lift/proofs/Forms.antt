@@ -1,11 +1,11 @@
 -- What lifts a value that is counted already, by the kind of its type, over the parts of the type.
 use Rattle.std.proofs.Common.{◌≡◌, ℕ, List, [], Some, None, refl}
 use Rattle.std.specs.Int.{w8, w32}
-use Rattle.ca_types.specs.declared.types.ValType.{ValType, out-ValType}
-use Rattle.ca_types.specs.declared.types.Case.{Case}
-use Rattle.ca_types.specs.declared.types.Field.{Field}
-use Rattle.ca_types.specs.declared.types.ValType.TheOpen as F
-use Rattle.ca_types.specs.declared.value.Value.TheViews as values
+use Rattle.syntax_trees.specs.declared.types.ValType.{ValType, out-ValType}
+use Rattle.syntax_trees.specs.declared.types.Case.{Case}
+use Rattle.syntax_trees.specs.declared.types.Field.{Field}
+use Rattle.syntax_trees.specs.declared.types.ValType.TheOpen as F
+use Rattle.syntax_trees.specs.declared.value.Value.TheViews as values
 use Rattle.laid_types.specs.Parts.{parts_of, case_count}
 use Rattle.value_lift.specs.Bytes.{number}
 use Rattle.value_lift.specs.Answers.{made, uncounted, plainly}

@@ -1,7 +1,7 @@
 -- What uses make of a table, one after the other, up to the first that is refused: how often handles are lent, and what is added to a run
 -- of calls and to a history.
 use Rattle.std.proofs.Common.{◌≡◌, ◌∙◌, ◌+◌, ◌≤◌, ℕ, suc, List, [], ◌∷◌, ◌++◌, length, Option, Result, Ok, Err, refl, ap, sym, subst, arith}
-use Rattle.ca_types.specs.declared.types.ValType.{ValType}
+use Rattle.syntax_trees.specs.declared.types.ValType.{ValType}
 use Rattle.handle_table.specs.History.{Event}
 use Rattle.handle_table.specs.Slots.{Slots, StandsFor}
 use Rattle.res_handles.specs.declared.handle.Handle.{Handle}

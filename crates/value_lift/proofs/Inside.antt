@@ -4,13 +4,13 @@ use Rattle.std.specs.Prelude.{nat_lt, IfSome}
 use Rattle.std.specs.Option.{option_map}
 use Rattle.std.specs.Int.{w32}
 use Rattle.std.proofs.lemmas.Bool.{cond-true, lt-ltb}
-use Rattle.ca_base.specs.declared.memory.MemoryOr.{MemoryOr}
-use Rattle.ca_base.specs.declared.memory.MemoryOr.TheVariants.{Memory, Fault}
-use Rattle.ca_types.specs.declared.types.ValType.{ValType}
-use Rattle.ca_types.specs.declared.value.Value.{Value}
-use Rattle.ca_types.specs.declared.value.Value.TheViews as values
-use Rattle.ca_types.specs.Layout.{laid, aligned, tag_size}
-use Rattle.ca_types.specs.Flat.{flat}
+use Rattle.faults.specs.declared.memory.MemoryOr.{MemoryOr}
+use Rattle.faults.specs.declared.memory.MemoryOr.TheVariants.{Memory, Fault}
+use Rattle.syntax_trees.specs.declared.types.ValType.{ValType}
+use Rattle.syntax_trees.specs.declared.value.Value.{Value}
+use Rattle.syntax_trees.specs.declared.value.Value.TheViews as values
+use Rattle.laid_types.specs.Layout.{laid, aligned, tag_size}
+use Rattle.syntax_trees.specs.Flat.{flat}
 use Rattle.laid_types.specs.Parts.{parts_of, part_at, case_count, payload_place}
 use Rattle.laid_types.specs.Known.{Numbered}
 use Rattle.value_lift.specs.declared.trap.LiftTrap.{LiftTrap}

@@ -1,11 +1,11 @@
 -- What a fold over types gives for a type, from its outer layer.
 use mathlib.Core.Path.{fun_ext}
 use Rattle.std.proofs.Common.{◌≡◌, ◌∙◌, ap}
-use Rattle.ca_types.specs.declared.types.ValType.{ValType, fold-ValType, out-ValType}
-use Rattle.ca_types.specs.declared.types.Case.{Case}
-use Rattle.ca_types.specs.declared.types.Field.{Field}
-use Rattle.ca_types.specs.declared.types.ValType.TheOpen as F
-use Rattle.ca_types.specs.declared.types.ValType.TheFolds.{fold-Case, fold-Field, fold_out-ValType, map-ValType}
+use Rattle.syntax_trees.specs.declared.types.ValType.{ValType, fold-ValType, out-ValType}
+use Rattle.syntax_trees.specs.declared.types.Case.{Case}
+use Rattle.syntax_trees.specs.declared.types.Field.{Field}
+use Rattle.syntax_trees.specs.declared.types.ValType.TheOpen as F
+use Rattle.syntax_trees.specs.declared.types.ValType.TheFolds.{fold-Case, fold-Field, fold_out-ValType, map-ValType}
 
 module _ (A C B : Type 0) (s : F.ValType-F A C B → A) (sc : F.Case-F A C B → C) (sf : F.Field-F A C B → B)
     (gc : Case → C) (gf : Field → B)

@@ -4,7 +4,7 @@ use Rattle.std.specs.Prelude.{nat_eq, option_map}
 use Rattle.std.specs.List.{slice_get}
 use Rattle.std.proofs.lemmas.Bool.{cases_eq, cases_lt, cases_Bool}
 use Rattle.std.proofs.lemmas.Bool.Decides.{Decides-eqb}
-use Rattle.ca_types.specs.declared.types.ValType.{ValType}
+use Rattle.syntax_trees.specs.declared.types.ValType.{ValType}
 use Rattle.laid_types.specs.SameTypes.{same_val, AreDistinct}
 use Rattle.laid_types.proofs.SameTypes.{val_told}
 use Rattle.handle_table.specs.Slots.{Slots, slot_at, with_slot, removed, with_entry}

@@ -2,15 +2,15 @@
 use Rattle.std.proofs.Common.{◌≡◌, ◌∙◌, ◌≤◌, ◌+◌, ◌*◌, ◌%◌, ◌<◌, ℕ, false, List, [], map, length, Ok, Err, Result, ap, sym, subst, arith}
 use Rattle.std.specs.Prelude.{if◌then◌else◌, ◌==◌}
 use Rattle.std.proofs.lemmas.Bool.{leb-true, eqb-true, le-leb, eq-eqb, ne_eqb, cond-true, cond-false}
-use Rattle.ca_types.specs.declared.types.ValType.{ValType}
-use Rattle.ca_types.specs.declared.value.Value.{Value}
-use Rattle.ca_types.specs.Layout.{laid}
+use Rattle.syntax_trees.specs.declared.types.ValType.{ValType}
+use Rattle.syntax_trees.specs.declared.value.Value.{Value}
+use Rattle.laid_types.specs.Layout.{laid}
 use Rattle.value_lift.specs.declared.counting.LiftOf.{LiftOf}
 use Rattle.value_lift.specs.declared.trap.LiftTrap.{LiftTrap}
 use Rattle.value_lift.specs.declared.trap.LiftWhy.TheVariants.{Misaligned, Bounds}
 use Rattle.value_lift.specs.Bytes.{is_aligned, is_inside}
 use Rattle.value_lift.specs.Answers.{Lifted, trap, value_of}
-use Rattle.ca_types.specs.Flat.{flat}
+use Rattle.syntax_trees.specs.Flat.{flat}
 use Rattle.value_lift.specs.Lifting.{lift, lift_words, part, load, load_list, lift_flat, most}
 use Rattle.value_lift.specs.WordStanding.{AreWords, FlatOf}
 use Rattle.value_lift.specs.Pieces.{elements_from, elements_of}

@@ -2,17 +2,17 @@
 use mathlib.Core.Path.{fun_ext}
 use Rattle.std.proofs.Common.{◌≡◌, ◌∙◌, ℕ, List, [], ◌∷◌, length, map, Option, Some, None, refl, ap, sym, subst, rules}
 use Rattle.std.specs.Option.{option_map}
-use Rattle.ca_types.specs.declared.core_type.CoreType.{CoreType}
-use Rattle.ca_types.specs.declared.core_type.CoreType.TheVariants.{I32}
-use Rattle.ca_types.specs.declared.types.ValType.{ValType, out-ValType, roll-ValType}
-use Rattle.ca_types.specs.declared.types.Case.{Case}
-use Rattle.ca_types.specs.declared.types.Field.{Field}
-use Rattle.ca_types.specs.declared.types.ValType.TheOpen as F
-use Rattle.ca_types.specs.declared.types.ValType.TheViews.{roll-Case, roll-Field, the_lemmas}
-use Rattle.ca_types.specs.declared.types.ValType.TheFolds.{ind-ValType, map-ValType, map-Case, map-Field}
-use Rattle.ca_types.specs.Layout.{Laid, laid, laid_step, laid_case, laid_field, record_laid, tagged, there}
-use Rattle.ca_types.specs.Flat.{flat, flat_step, flat_case, flat_field, held_flat, all_of, joined_all, joined_lists}
-use Rattle.ca_types.proofs.Folds.{held, fold_case, fold_field}
+use Rattle.syntax_trees.specs.declared.core_type.CoreType.{CoreType}
+use Rattle.syntax_trees.specs.declared.core_type.CoreType.TheVariants.{I32}
+use Rattle.syntax_trees.specs.declared.types.ValType.{ValType, out-ValType, roll-ValType}
+use Rattle.syntax_trees.specs.declared.types.Case.{Case}
+use Rattle.syntax_trees.specs.declared.types.Field.{Field}
+use Rattle.syntax_trees.specs.declared.types.ValType.TheOpen as F
+use Rattle.syntax_trees.specs.declared.types.ValType.TheViews.{roll-Case, roll-Field, the_lemmas}
+use Rattle.syntax_trees.specs.declared.types.ValType.TheFolds.{ind-ValType, map-ValType, map-Case, map-Field}
+use Rattle.laid_types.specs.Layout.{Laid, laid, laid_step, laid_case, laid_field, record_laid, tagged, there}
+use Rattle.syntax_trees.specs.Flat.{flat, flat_step, flat_case, flat_field, held_flat, all_of, joined_all, joined_lists}
+use Rattle.syntax_trees.proofs.Folds.{held, fold_case, fold_field}
 use Rattle.value_lift.specs.Ledger.{Ledger, counting}
 use Rattle.value_lift.specs.Over.{Part, CasePart, FieldPart, tree_of, tree_in, unlabelled, laid_of, laid_in, flat_of, flat_in, part_step, part_case, part_field, folded, lift, lift_words, part, payload_part, field_part, layer_of, lift_case, lift_word_case}
 use Rattle.value_lift.proofs.Layers.{by_layer}

@@ -6,12 +6,12 @@ use Rattle.std.proofs.lemmas.List.{length-map}
 use Rattle.std.specs.List.{slice_get}
 use Rattle.std.specs.Option.{option_and_then}
 use Rattle.std.specs.Int.{byte_len}
-use Rattle.ca_types.specs.declared.types.ValType.{ValType, out-ValType}
-use Rattle.ca_types.specs.declared.types.Case.{Case}
-use Rattle.ca_types.specs.declared.types.Field.{Field}
-use Rattle.ca_types.specs.declared.types.ValType.TheOpen as F
-use Rattle.ca_types.specs.Layout.{Laid, laid, laid_step, laid_payload, aligned, end_of, top_align, top_size, there, tagged, tag_size, bits_size}
-use Rattle.ca_types.proofs.Folds.{held}
+use Rattle.syntax_trees.specs.declared.types.ValType.{ValType, out-ValType}
+use Rattle.syntax_trees.specs.declared.types.Case.{Case}
+use Rattle.syntax_trees.specs.declared.types.Field.{Field}
+use Rattle.syntax_trees.specs.declared.types.ValType.TheOpen as F
+use Rattle.laid_types.specs.Layout.{Laid, laid, laid_step, laid_payload, aligned, end_of, top_align, top_size, there, tagged, tag_size, bits_size}
+use Rattle.syntax_trees.proofs.Folds.{held}
 use Rattle.laid_types.specs.Parts.{parts_of, parts_case, part_at, case_count, count_case, payload_place, layouts}
 use Rattle.value_lift.specs.Bytes.{is_inside, width_of}
 use Rattle.value_lift.specs.Ledger.{Ledger}

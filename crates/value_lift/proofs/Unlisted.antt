@@ -1,8 +1,8 @@
 -- Lifting that lists the indices which are used is plain lifting, but for the list.
 use Rattle.std.proofs.Common.{◌≡◌, ◌∙◌, ◌-◌, ◌==◌, ℕ, Bool, true, false, if◌then◌else◌, List, [], Ok, Err, Result, refl, ap, sym, subst}
 use Rattle.std.specs.Prelude.{nat_le}
-use Rattle.ca_types.specs.declared.value.Value.{Value}
-use Rattle.ca_types.specs.Layout.{laid}
+use Rattle.syntax_trees.specs.declared.value.Value.{Value}
+use Rattle.laid_types.specs.Layout.{laid}
 use Rattle.value_lift.specs.declared.trap.LiftTrap.{LiftTrap}
 use Rattle.value_lift.specs.declared.trap.LiftWhy.TheVariants.{TooLarge, Misaligned, Bounds}
 use Rattle.value_lift.specs.Bytes.{is_inside, is_aligned}

@@ -2,7 +2,7 @@
 -- calls and to a history.
 use Rattle.std.proofs.Common.{◌≡◌, ◌∙◌, ◌+◌, ◌≤◌, ℕ, List, ◌∷◌, Bool, true, false, if◌then◌else◌, Option, Some, None, Result, Ok, Err, refl, ap, sym, subst, arith, inl, inr}
 use Rattle.std.specs.Prelude.{nat_eq, option_map}
-use Rattle.ca_types.specs.declared.types.ValType.{ValType}
+use Rattle.syntax_trees.specs.declared.types.ValType.{ValType}
 use Rattle.handle_table.specs.History.{Event, Remove}
 use Rattle.handle_table.specs.Slots.{Slots, entry_at, removed, StandsFor}
 use Rattle.handle_table.proofs.Histories.{remove_stands}

@@ -2,13 +2,13 @@
 use Rattle.std.proofs.Common.{◌≡◌, ◌∙◌, ◌≤◌, ◌+◌, ℕ, zero, suc, max, List, [], ◌∷◌, ◌++◌, length, map, take, Option, Some, None, refl, ap, sym, arith, length-append, length-take}
 use Rattle.std.specs.List.{slice_get}
 use Rattle.std.specs.Option.{option_and_then}
-use Rattle.ca_types.specs.declared.core_type.CoreType.{CoreType}
-use Rattle.ca_types.specs.declared.types.ValType.{ValType, out-ValType}
-use Rattle.ca_types.specs.declared.types.Case.{Case}
-use Rattle.ca_types.specs.declared.types.Field.{Field}
-use Rattle.ca_types.specs.declared.types.ValType.TheOpen as F
-use Rattle.ca_types.specs.Flat.{flat, flat_step, flat_payload, held_flat, all_of, joined_lists, joined_all}
-use Rattle.ca_types.proofs.Folds.{held}
+use Rattle.syntax_trees.specs.declared.core_type.CoreType.{CoreType}
+use Rattle.syntax_trees.specs.declared.types.ValType.{ValType, out-ValType}
+use Rattle.syntax_trees.specs.declared.types.Case.{Case}
+use Rattle.syntax_trees.specs.declared.types.Field.{Field}
+use Rattle.syntax_trees.specs.declared.types.ValType.TheOpen as F
+use Rattle.syntax_trees.specs.Flat.{flat, flat_step, flat_payload, held_flat, all_of, joined_lists, joined_all}
+use Rattle.syntax_trees.proofs.Folds.{held}
 use Rattle.laid_types.specs.Parts.{parts_of, parts_case}
 use Rattle.value_lift.specs.Room.{words_behind, HasCaseWords}
 use Rattle.value_lift.proofs.Equations.{flats_in, flat_is}

@@ -4,13 +4,13 @@ use Rattle.std.specs.Int.{w32, w64}
 use Rattle.std.proofs.lemmas.List.{drop_more, drop-drop}
 use Rattle.std.proofs.Math.Pow.{mod-mod-pow}
 use Rattle.std.proofs.Common.{mod-eq_of_lt}
-use Rattle.ca_types.specs.declared.core_type.CoreType.{CoreType}
-use Rattle.ca_types.specs.declared.core_type.CoreType.TheVariants.{I32, I64}
-use Rattle.ca_types.specs.declared.types.ValType.{ValType, out-ValType}
-use Rattle.ca_types.specs.declared.types.Case.{Case}
-use Rattle.ca_types.specs.declared.types.Field.{Field}
-use Rattle.ca_types.specs.declared.types.ValType.TheOpen as F
-use Rattle.ca_types.specs.Flat.{flat, flat_step, flat_payload, joined, joined_lists, joined_all}
+use Rattle.syntax_trees.specs.declared.core_type.CoreType.{CoreType}
+use Rattle.syntax_trees.specs.declared.core_type.CoreType.TheVariants.{I32, I64}
+use Rattle.syntax_trees.specs.declared.types.ValType.{ValType, out-ValType}
+use Rattle.syntax_trees.specs.declared.types.Case.{Case}
+use Rattle.syntax_trees.specs.declared.types.Field.{Field}
+use Rattle.syntax_trees.specs.declared.types.ValType.TheOpen as F
+use Rattle.syntax_trees.specs.Flat.{flat, flat_step, flat_payload, joined, joined_lists, joined_all}
 use Rattle.laid_types.specs.Parts.{parts_case}
 use Rattle.value_lift.specs.Pieces.{part_in}
 use Rattle.value_lift.specs.Lifting.{low}

@@ -1,11 +1,11 @@
 -- What holds of lifting alone: what is lifted from a memory is what stands there, and nothing else is; where no value stands, it stops at
 -- the first part that stands for nothing, and for its reason; so there is one value or one fault. The same of core values.
 use Rattle.std.specs.Prelude.{◌≡◌, ◌≤◌, ◌<◌, ◌+◌, ◌-◌, ◌↔◌, ◌⊎◌, ℕ, List, map, length, Ok, Err}
-use Rattle.ca_types.specs.declared.types.ValType.{ValType}
-use Rattle.ca_types.specs.declared.value.Value.{Value}
+use Rattle.syntax_trees.specs.declared.types.ValType.{ValType}
+use Rattle.syntax_trees.specs.declared.value.Value.{Value}
 use Rattle.value_lift.specs.declared.counting.LiftOf.{LiftOf}
 use Rattle.value_lift.specs.declared.trap.LiftWhy.{LiftWhy}
-use Rattle.ca_types.specs.Flat.{flat}
+use Rattle.syntax_trees.specs.Flat.{flat}
 use Rattle.value_lift.specs.Answers.{trap}
 use Rattle.value_lift.specs.Lifting.{lift, load, load_list, lift_flat, most}
 use Rattle.value_lift.specs.Standing.{Stands, total, counts}

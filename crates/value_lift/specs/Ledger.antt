@@ -2,9 +2,9 @@
 -- what indices in a table name. Lifting is said for any such ledger, and goes on with it from part to part, from left to right; where it
 -- stops, the ledger tells with what.
 use Rattle.std.specs.Prelude.{◌≡◌, ℕ, Result, Ok, Err}
-use Rattle.ca_base.specs.declared.memory.MemoryOr.{MemoryOr}
-use Rattle.ca_base.specs.declared.memory.MemoryOr.TheVariants.{Memory, Fault}
-use Rattle.ca_types.specs.declared.types.ValType.{ValType}
+use Rattle.faults.specs.declared.memory.MemoryOr.{MemoryOr}
+use Rattle.faults.specs.declared.memory.MemoryOr.TheVariants.{Memory, Fault}
+use Rattle.syntax_trees.specs.declared.types.ValType.{ValType}
 use Rattle.value_lift.specs.declared.trap.LiftTrap.{LiftTrap}
 
 -- What an index is to name: a handle of a resource, that is taken or lent; or the readable end of a stream or a future, that is taken, by

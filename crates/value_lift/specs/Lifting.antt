@@ -1,12 +1,12 @@
 -- Lifting over the plain ledger (Component Model, CanonicalABI.md, "Loading", "Flat Lifting"): what it answers of bytes and of core
 -- values, where an index names itself.
 use Rattle.std.specs.Prelude.{◌≡◌, ℕ, ◌==◌, Bool, true, false, if◌then◌else◌, List, [], Option, Result, Ok, Err}
-use Rattle.ca_types.specs.declared.types.ValType.{ValType, out-ValType}
-use Rattle.ca_types.specs.declared.types.Field.{Field}
-use Rattle.ca_types.specs.declared.types.Case.{Case}
-use Rattle.ca_types.specs.declared.types.ValType.TheOpen.{ValType-F}
-use Rattle.ca_types.specs.declared.value.Value.{Value}
-use Rattle.ca_types.specs.Layout.{laid}
+use Rattle.syntax_trees.specs.declared.types.ValType.{ValType, out-ValType}
+use Rattle.syntax_trees.specs.declared.types.Field.{Field}
+use Rattle.syntax_trees.specs.declared.types.Case.{Case}
+use Rattle.syntax_trees.specs.declared.types.ValType.TheOpen.{ValType-F}
+use Rattle.syntax_trees.specs.declared.value.Value.{Value}
+use Rattle.laid_types.specs.Layout.{laid}
 use Rattle.value_lift.specs.declared.trap.LiftTrap.{LiftTrap}
 use Rattle.value_lift.specs.declared.trap.LiftWhy.TheVariants.{Misaligned, Bounds}
 use Rattle.value_lift.specs.declared.counting.LiftOf.{LiftOf}

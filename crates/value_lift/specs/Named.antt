@@ -1,9 +1,9 @@
 -- The values that are told by an index (Component Model, CanonicalABI.md, "Loading", `lift_own`, `lift_borrow`, `lift_stream` and
 -- `lift_future`): handles, and readable ends of streams and futures.
 use Rattle.std.specs.Prelude.{ℕ, Option, Some, None}
-use Rattle.ca_types.specs.declared.types.ValType.{ValType}
-use Rattle.ca_types.specs.declared.types.ValType.TheOpen.{ValType-F}
-use Rattle.ca_types.specs.declared.value.Value.{Value}
+use Rattle.syntax_trees.specs.declared.types.ValType.{ValType}
+use Rattle.syntax_trees.specs.declared.types.ValType.TheOpen.{ValType-F}
+use Rattle.syntax_trees.specs.declared.value.Value.{Value}
 use Rattle.value_lift.specs.declared.named.Named.{Named}
 use Rattle.value_lift.specs.declared.named.Named.TheVariants as named
 use Rattle.value_lift.specs.Ledger.{What, AnOwn, ABorrow, AnEnd}

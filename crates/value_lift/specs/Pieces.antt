@@ -1,7 +1,7 @@
 -- The pieces of lifting over the plain ledger (Component Model, CanonicalABI.md, "Loading", "Flat Lifting").
 use Rattle.std.specs.Prelude.{ℕ, nat_lt, if◌then◌else◌, List, Option, Err}
-use Rattle.ca_types.specs.declared.value.Value.{Value}
-use Rattle.ca_types.specs.declared.value.Value.TheViews as values
+use Rattle.syntax_trees.specs.declared.value.Value.{Value}
+use Rattle.syntax_trees.specs.declared.value.Value.TheViews as values
 use Rattle.value_lift.specs.declared.trap.LiftTrap.{LiftTrap}
 use Rattle.value_lift.specs.declared.trap.LiftWhy.TheVariants.{BadCase}
 use Rattle.value_lift.specs.Answers.{Lifted, trap, made, plainly}

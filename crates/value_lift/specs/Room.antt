@@ -1,9 +1,9 @@
 -- What has to be there before a value is lifted: the bytes of the type's size, so those of its parts; as many core values as stand
 -- for the type, so those of its parts.
 use Rattle.std.specs.Prelude.{◌≡◌, ◌≤◌, ℕ, ◌+◌, List, [], ◌∷◌, length, Option, Some, None}
-use Rattle.ca_types.specs.declared.types.ValType.{ValType}
-use Rattle.ca_types.specs.Layout.{laid, tag_size}
-use Rattle.ca_types.specs.Flat.{flat}
+use Rattle.syntax_trees.specs.declared.types.ValType.{ValType}
+use Rattle.laid_types.specs.Layout.{laid, tag_size}
+use Rattle.syntax_trees.specs.Flat.{flat}
 use Rattle.laid_types.specs.Parts.{part_at, case_count, payload_place}
 pub use Rattle.laid_types.specs.Placing.{end_behind}
 

@@ -2,13 +2,13 @@
 -- `lift_borrow`, `lift_stream` and `lift_future`). Lifting that lists the indices and takes each for itself gives them in order, from left
 -- to right, and behind them a plain value or a fault. A table takes them in this order, up to the first that it refuses.
 use Rattle.std.specs.Prelude.{◌≡◌, ℕ, ◌+◌, ◌-◌, ◌≤◌, nat_le, if◌then◌else◌, List, [], ◌∷◌, ◌++◌, map, Option, Some, None, Result, Ok, Err}
-use Rattle.ca_base.specs.declared.memory.MemoryOr.{MemoryOr}
-use Rattle.ca_base.specs.declared.memory.MemoryOr.TheVariants.{Memory, Fault}
-use Rattle.ca_types.specs.declared.types.ValType.{ValType}
-use Rattle.ca_types.specs.declared.value.Handle as plain_handles
-use Rattle.ca_types.specs.declared.value.Value.{Value, fold-Value, roll-Value}
-use Rattle.ca_types.specs.declared.value.Value.TheOpen.{Value-F}
-use Rattle.ca_types.specs.declared.value.Value.TheVariants as plain
+use Rattle.faults.specs.declared.memory.MemoryOr.{MemoryOr}
+use Rattle.faults.specs.declared.memory.MemoryOr.TheVariants.{Memory, Fault}
+use Rattle.syntax_trees.specs.declared.types.ValType.{ValType}
+use Rattle.syntax_trees.specs.declared.value.Handle as plain_handles
+use Rattle.syntax_trees.specs.declared.value.Value.{Value, fold-Value, roll-Value}
+use Rattle.syntax_trees.specs.declared.value.Value.TheOpen.{Value-F}
+use Rattle.syntax_trees.specs.declared.value.Value.TheVariants as plain
 use Rattle.handle_table.specs.History.{Event, Remove}
 use Rattle.handle_table.specs.Laws.{with_changed}
 use Rattle.handle_table.specs.Slots.{Slots, StandsFor}

@@ -2,10 +2,10 @@
 -- Model, CanonicalABI.md, "Loading", "Storing", "Flat Lifting", "Flat Lowering"). `Stands` and `FlatOf` speak of a value and of its parts
 -- alike, and leave it out.
 use Rattle.std.specs.Prelude.{◌≡◌, ◌≤◌, ◌+◌, ◌*◌, ◌%◌, ℕ, List, length}
-use Rattle.ca_types.specs.declared.types.ValType.{ValType}
-use Rattle.ca_types.specs.declared.value.Value.{Value}
-use Rattle.ca_types.specs.Layout.{laid}
-use Rattle.ca_types.specs.Flat.{flat}
+use Rattle.syntax_trees.specs.declared.types.ValType.{ValType}
+use Rattle.syntax_trees.specs.declared.value.Value.{Value}
+use Rattle.laid_types.specs.Layout.{laid}
+use Rattle.syntax_trees.specs.Flat.{flat}
 use Rattle.value_lift.specs.Standing.{Stands, AreElements}
 use Rattle.value_lift.specs.WordStanding.{AreWords, FlatOf}
 

@@ -3,9 +3,9 @@
 -- stops.
 use Rattle.std.specs.Prelude.{◌≡◌, ℕ, ◌+◌, ◌-◌, ◌≤◌, ◌^◌, nat_le, if◌then◌else◌, Bool, List, [], ◌∷◌, ◌++◌, Option, Result, Ok, Err, option_and_then}
 use Rattle.std.specs.List.{slice_get}
-use Rattle.ca_base.specs.declared.memory.MemoryOr.{MemoryOr}
-use Rattle.ca_base.specs.declared.memory.MemoryOr.TheVariants.{Memory, Fault}
-use Rattle.ca_types.specs.declared.types.ValType.{ValType}
+use Rattle.faults.specs.declared.memory.MemoryOr.{MemoryOr}
+use Rattle.faults.specs.declared.memory.MemoryOr.TheVariants.{Memory, Fault}
+use Rattle.syntax_trees.specs.declared.types.ValType.{ValType}
 use Rattle.laid_types.specs.SameTypes.{same_val}
 use Rattle.handle_table.specs.Slots.{Slots, removed}
 use Rattle.res_handles.specs.declared.handle.Handle.{Handle}

@@ -6,18 +6,18 @@ use Rattle.std.specs.Prelude.{◌≡◌, ◌≢◌, ◌≤◌, ◌<◌, ◌+◌,
 use Rattle.std.specs.List.{slice_get}
 use Rattle.std.specs.Int.{w8, w16, w32, w64, cast_signed}
 use Rattle.std.specs.Str.{IsUtf8}
-use Rattle.ca_types.specs.declared.core_type.CoreType.{CoreType}
-use Rattle.ca_types.specs.declared.core_type.CoreType.TheVariants.{I32, I64}
-use Rattle.ca_types.specs.declared.types.ValType.{ValType}
-use Rattle.ca_types.specs.declared.types.Field.{Field}
-use Rattle.ca_types.specs.declared.types.Case.{Case}
-use Rattle.ca_types.specs.declared.types.ValType.TheViews as types
-use Rattle.ca_types.specs.declared.types.ValType.TheVariants as leaves
-use Rattle.ca_types.specs.declared.value.Value.{Value}
-use Rattle.ca_types.specs.declared.value.Value.TheViews as values
-use Rattle.ca_types.specs.declared.value.Value.TheVariants as plain
-use Rattle.ca_types.specs.Layout.{laid}
-use Rattle.ca_types.specs.Flat.{flat}
+use Rattle.syntax_trees.specs.declared.core_type.CoreType.{CoreType}
+use Rattle.syntax_trees.specs.declared.core_type.CoreType.TheVariants.{I32, I64}
+use Rattle.syntax_trees.specs.declared.types.ValType.{ValType}
+use Rattle.syntax_trees.specs.declared.types.Field.{Field}
+use Rattle.syntax_trees.specs.declared.types.Case.{Case}
+use Rattle.syntax_trees.specs.declared.types.ValType.TheViews as types
+use Rattle.syntax_trees.specs.declared.types.ValType.TheVariants as leaves
+use Rattle.syntax_trees.specs.declared.value.Value.{Value}
+use Rattle.syntax_trees.specs.declared.value.Value.TheViews as values
+use Rattle.syntax_trees.specs.declared.value.Value.TheVariants as plain
+use Rattle.laid_types.specs.Layout.{laid}
+use Rattle.syntax_trees.specs.Flat.{flat}
 use Rattle.value_lift.specs.Bytes.{bytes_at, is_scalar}
 use Rattle.value_lift.specs.Standing.{AreBits, AreElements}
 

@@ -1,9 +1,9 @@
 //! Values without handles and ends.
 
 ghost use Rattle.std.specs.Prelude.{◌≡◌, ◌≤◌, false, length};
-ghost use Rattle.ca_base.specs.Faults.{MayMake};
-ghost use Rattle.ca_types.specs.Ends.{has_end};
-ghost use Rattle.ca_types.specs.Flat.{flat};
+ghost use Rattle.faults.specs.Faults.{MayMake};
+ghost use Rattle.syntax_trees.specs.Ends.{has_end};
+ghost use Rattle.syntax_trees.specs.Flat.{flat};
 ghost use Rattle.laid_types.specs.Handles.{has_handle};
 ghost use Rattle.value_lift.specs.Lifting.{IsFor, load, load_list, lift_flat};
 
@@ -12,9 +12,9 @@ use crate::counting::LiftOf;
 use crate::loads::{load_by, load_list_by};
 use crate::trap::LiftError;
 use crate::words::word_value_at;
-use ca_types::{Value, Values};
 use laid_types::LaidType;
 use std::alloc::Global;
+use syntax_trees::{Value, Values};
 
 /// The value of a type at a place of a memory, as `load` lifts it (Component Model, CanonicalABI.md, "Loading"). The type holds no
 /// handle and no end of a stream or a future, so no table is needed.

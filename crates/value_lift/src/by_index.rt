@@ -16,7 +16,7 @@ pub(crate) struct ByIndex {
 
 impl Ledger for ByIndex {
     ghost use Rattle.std.specs.Prelude.{ℕ, List};
-    ghost use Rattle.ca_types.specs.declared.types.ValType.{ValType};
+    ghost use Rattle.syntax_trees.specs.declared.types.ValType.{ValType};
     ghost use Rattle.value_lift.specs.declared.trap.LiftTrap.{LiftTrap};
     ghost use Rattle.value_lift.specs.Answers.{plainly};
 

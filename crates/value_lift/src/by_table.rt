@@ -9,13 +9,13 @@ use crate::ledger::Ledger;
 use crate::moved::Moved;
 use crate::named::Named;
 use crate::trap::{LiftError, LiftTrap};
-use ca_base::Seq;
 use handle_table::Table;
 use laid_types::NumberedType;
 use res_handles::Entry;
 use std::alloc::Global;
 use std::marker::Model;
 use std::mem;
+use syntax_trees::Seq;
 
 /// Keeps how much may be counted still, the table, and what has moved in it. Each handle may be lent as often as something may be
 /// counted still.

@@ -12,10 +12,10 @@ ghost use Rattle.value_lift.specs.Tables.{at_first, taken_own, taken_borrow, tak
 
 use crate::moved::Moved;
 use crate::trap::{LiftError, LiftTrap, LiftWhy};
-use ca_base::Seq;
 use handle_table::Table;
 use laid_types::NumberedType;
 use res_handles::{Entry, Refusal, lift_borrow, lift_end, lift_own};
+use syntax_trees::Seq;
 
 /// Lifts an own handle of a resource: it leaves the table.
 pub(crate) fn own_at<E: Entry + Drop>(

@@ -1,7 +1,7 @@
 //! What holds of lifting alone, and of lifting over a table beside it.
 
 ghost use Rattle.std.specs.Prelude.{List};
-ghost use Rattle.ca_types.specs.declared.types.ValType.{ValType};
+ghost use Rattle.syntax_trees.specs.declared.types.ValType.{ValType};
 ghost use Rattle.value_lift.specs.Settled.{LoadsAreSettled, ListsAreSettled, WordsAreSettled, ListedLoadsArePlain, ListedListsArePlain, ListedWordsArePlain};
 ghost use Rattle.value_lift.specs.Taken.{LoadsComeTo, ListsComeTo, WordsComeTo};
 ghost use Rattle.value_lift.specs.Laws.{LiftedValuesStand, StandingValuesAreLifted, LoadedValuesStand, LoadedListsStand, LiftedWordsStand, FailingValuesStop, FailingLoadsStop, FailingListsStop, FailingWordsStop, OneIsLoaded, OneListIsLoaded, OneIsLifted};

@@ -10,7 +10,7 @@ use laid_types::NumberedType;
 /// `knows` says of types that they may be told so.
 pub(crate) trait Ledger {
     ghost use Rattle.std.specs.Prelude.{◌≡◌, List};
-    ghost use Rattle.ca_types.specs.declared.types.ValType.{ValType};
+    ghost use Rattle.syntax_trees.specs.declared.types.ValType.{ValType};
     ghost use Rattle.value_lift.specs.Ledger as ledgers;
     ghost use Rattle.value_lift.specs.Ledger.{Spends, MayTake, reached};
     ghost use Rattle.value_lift.specs.Named.{what_named};

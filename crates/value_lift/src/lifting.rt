@@ -1,8 +1,8 @@
 //! Values with parts, from a memory.
 
 ghost use Rattle.std.specs.Prelude.{◌≡◌, ◌+◌, ◌*◌, ◌≤◌, [], length, None};
-ghost use Rattle.ca_types.specs.declared.types.ValType.{out-ValType};
-ghost use Rattle.ca_types.specs.Layout.{laid};
+ghost use Rattle.syntax_trees.specs.declared.types.ValType.{out-ValType};
+ghost use Rattle.laid_types.specs.Layout.{laid};
 ghost use Rattle.laid_types.specs.Parts.{parts_of, case_count};
 ghost use Rattle.value_lift.specs.Ledger.{MayTake, made, reached};
 ghost use Rattle.value_lift.specs.Named.{named_in, what_named, value_named};
@@ -15,10 +15,10 @@ use crate::named::Named;
 use crate::plain::{flags_of, plain_at};
 use crate::texts::string_of;
 use crate::trap::{LiftError, LiftTrap, LiftWhy};
-use ca_base::Seq;
-use ca_types::{Boxed, ValType, Value, Values, aligned};
 use laid_types::NumberedType;
+use layouts::aligned;
 use std::alloc::Global;
+use syntax_trees::{Boxed, Seq, ValType, Value, Values};
 
 /// The value that an index tells.
 pub(crate) fn value_by<L: Ledger>(

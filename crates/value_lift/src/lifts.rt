@@ -1,7 +1,7 @@
 //! Values with handles and ends.
 
 ghost use Rattle.std.specs.Prelude.{◌≡◌, ◌≤◌, ◌^◌, length};
-ghost use Rattle.ca_types.specs.Flat.{flat};
+ghost use Rattle.syntax_trees.specs.Flat.{flat};
 ghost use Rattle.laid_types.specs.SameTypes.{AreDistinct};
 ghost use Rattle.value_lift.specs.Over.{load_by, load_list_by, lift_flat_by};
 ghost use Rattle.value_lift.specs.Lifting.{IsFor, most};
@@ -14,12 +14,11 @@ use crate::loads;
 use crate::moved::Moved;
 use crate::trap::LiftError;
 use crate::words::word_value_at;
-use ca_base::Seq;
-use ca_types::{Value, Values};
 use handle_table::Table;
 use laid_types::NumberedType;
 use res_handles::Entry;
 use std::alloc::Global;
+use syntax_trees::{Seq, Value, Values};
 
 /// The value of a type at a place of a memory (Component Model, CanonicalABI.md, "Loading").
 ///

@@ -11,10 +11,9 @@ use crate::ledger::Ledger;
 use crate::lifting::{elements_of, value_at};
 use crate::plain::plain_at;
 use crate::trap::{LiftError, LiftTrap, LiftWhy};
-use ca_base::Seq;
-use ca_types::{ValType, Value, Values, align, size};
-use laid_types::NumberedType;
+use laid_types::{NumberedType, align, size};
 use std::alloc::Global;
+use syntax_trees::{Seq, ValType, Value, Values};
 
 /// The value of a type at a place of a memory.
 pub(crate) fn load_by<L: Ledger>(

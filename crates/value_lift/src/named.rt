@@ -1,10 +1,10 @@
 //! What the index of a value names.
 
 ghost use Rattle.std.specs.Prelude.{◌≡◌};
-ghost use Rattle.ca_types.specs.declared.types.ValType.{out-ValType};
+ghost use Rattle.syntax_trees.specs.declared.types.ValType.{out-ValType};
 ghost use Rattle.value_lift.specs.Named.{named_in, value_named};
 
-use ca_types::{Handle, ValType, Value};
+use syntax_trees::{Handle, ValType, Value};
 
 /// What the index of a value names, where a value is told by one.
 #[derive(Clone, Copy)]

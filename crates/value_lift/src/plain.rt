@@ -2,16 +2,16 @@
 
 ghost use Rattle.std.specs.Prelude.{◌≡◌, ◌+◌, ◌≤◌, length, IfOk, Ok, Err};
 ghost use Rattle.std.specs.Int.{w8};
-ghost use Rattle.ca_types.specs.declared.types.ValType.{out-ValType};
-ghost use Rattle.ca_types.specs.Layout.{laid};
+ghost use Rattle.syntax_trees.specs.declared.types.ValType.{out-ValType};
+ghost use Rattle.laid_types.specs.Layout.{laid};
 ghost use Rattle.value_lift.specs.Bytes.{number};
 ghost use Rattle.value_lift.specs.Pieces.{plain_of, char_of, flags_of};
 
 use crate::bytes::{number8, number16, number32, number64};
 use crate::trap::{LiftTrap, LiftWhy};
-use ca_base::{Memory, Name, Seq};
-use ca_types::{Handle, ValType, Value};
+use faults::Memory;
 use std::alloc::Global;
+use syntax_trees::{Handle, Name, Seq, ValType, Value};
 
 /// The character with this number.
 #[tactic(auto, using(crate::proofs::Places::is_a_scalar, crate::proofs::Places::is_no_scalar))]

@@ -3,7 +3,7 @@
 ghost use Rattle.std.specs.Prelude.{◌≡◌, true, false, List, MatchResult};
 ghost use Rattle.std.specs.Str.{is_utf8};
 ghost use Rattle.value_lift.specs.declared.trap.LiftWhy.TheVariants.{BadUtf8};
-ghost use Rattle.ca_types.specs.declared.types.ValType.{ValType};
+ghost use Rattle.syntax_trees.specs.declared.types.ValType.{ValType};
 ghost use Rattle.value_lift.specs.Leaves.{trap};
 ghost use Rattle.value_lift.specs.Ledger.{MayTake};
 ghost use Rattle.value_lift.specs.Over.{string_of};
@@ -11,9 +11,8 @@ ghost use Rattle.value_lift.specs.Over.{string_of};
 use crate::bytes::{bytes_at, is_inside};
 use crate::ledger::Ledger;
 use crate::trap::{LiftError, LiftTrap, LiftWhy};
-use ca_base::Name;
-use ca_types::Value;
 use std::alloc::Global;
+use syntax_trees::{Name, Value};
 
 /// Bytes as text, where they are UTF-8.
 #[tactic(auto, using(crate::proofs::Places::no_text, crate::proofs::Places::some_text))]

@@ -2,7 +2,7 @@
 
 ghost use Rattle.std.specs.Prelude.{◌≡◌};
 
-use ca_base::MemoryOr;
+use faults::MemoryOr;
 use res_handles::Refusal;
 use thiserror::Error;
 
@@ -56,7 +56,7 @@ impl LiftTrap {
 }
 
 impl From<LiftTrap> for MemoryOr<LiftTrap> {
-    ghost use Rattle.ca_base.specs.declared.memory.MemoryOr.TheVariants.{Fault};
+    ghost use Rattle.faults.specs.declared.memory.MemoryOr.TheVariants.{Fault};
 
     ghost from_gives = { λ trap e. e ≡ Fault trap };
 

@@ -3,8 +3,8 @@
 ghost use Rattle.std.specs.Prelude.{◌≡◌, ◌+◌, ◌≤◌, ◌<◌, ◌%◌, ◌^◌, [], length, None};
 ghost use Rattle.std.specs.Int.{w32};
 ghost use mir.Val.{bits};
-ghost use Rattle.ca_types.specs.declared.types.ValType.{out-ValType};
-ghost use Rattle.ca_types.specs.Flat.{flat};
+ghost use Rattle.syntax_trees.specs.declared.types.ValType.{out-ValType};
+ghost use Rattle.syntax_trees.specs.Flat.{flat};
 ghost use Rattle.laid_types.specs.Parts.{parts_of, case_count};
 ghost use Rattle.value_lift.specs.Ledger.{MayTake};
 ghost use Rattle.value_lift.specs.Named.{named_in};
@@ -18,10 +18,9 @@ use crate::named::Named;
 use crate::plain::{char_of, flags_of};
 use crate::texts::string_of;
 use crate::trap::{LiftError, LiftTrap, LiftWhy};
-use ca_base::Seq;
-use ca_types::{Boxed, Handle, ValType, Value, Values};
 use laid_types::NumberedType;
 use std::alloc::Global;
+use syntax_trees::{Boxed, Handle, Seq, ValType, Value, Values};
 
 /// The low 32 bits of one of some core values.
 fn low32(words: &[u64], at: usize) -> u32

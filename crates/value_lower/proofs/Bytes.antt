@@ -5,14 +5,14 @@ use Rattle.std.specs.Prelude.{nat_le}
 use Rattle.std.specs.List.{slice_get}
 use Rattle.std.specs.Option.{option_and_then}
 use Rattle.std.specs.Int.{byte_len}
-use Rattle.ca_types.specs.declared.types.ValType.{ValType, out-ValType}
-use Rattle.ca_types.specs.declared.types.ValType.TheOpen as F
-use Rattle.ca_types.specs.declared.value.Value.{Value, out-Value}
-use Rattle.ca_types.specs.declared.value.Value.TheOpen as V
-use Rattle.ca_types.specs.declared.value.Value.TheVariants as plain
-use Rattle.ca_types.specs.declared.value.Value.TheViews as values
-use Rattle.ca_types.specs.declared.value.Value.TheViews.{roll-Value, roll-out-Value}
-use Rattle.ca_types.specs.Layout.{Laid, laid, aligned, end_of, top_size, tagged, tag_size, bits_size}
+use Rattle.syntax_trees.specs.declared.types.ValType.{ValType, out-ValType}
+use Rattle.syntax_trees.specs.declared.types.ValType.TheOpen as F
+use Rattle.syntax_trees.specs.declared.value.Value.{Value, out-Value}
+use Rattle.syntax_trees.specs.declared.value.Value.TheOpen as V
+use Rattle.syntax_trees.specs.declared.value.Value.TheVariants as plain
+use Rattle.syntax_trees.specs.declared.value.Value.TheViews as values
+use Rattle.syntax_trees.specs.declared.value.Value.TheViews.{roll-Value, roll-out-Value}
+use Rattle.laid_types.specs.Layout.{Laid, laid, aligned, end_of, top_size, tagged, tag_size, bits_size}
 use Rattle.laid_types.specs.Parts.{parts_of, parts_case, case_count, count_case, layouts}
 use Rattle.laid_types.specs.Gathered.{laid_over}
 use Rattle.laid_types.proofs.ByParts.{laid_by_parts}

@@ -1,9 +1,9 @@
 -- As many core values are given as stand for the type, where handles and ends are told by their numbers.
 use Rattle.std.proofs.Common.{◌≡◌, ◌+◌, ℕ, true, List, length}
-use Rattle.ca_types.specs.declared.types.ValType.{ValType}
-use Rattle.ca_types.specs.declared.value.Value.{Value}
-use Rattle.ca_types.specs.Fits.{fits}
-use Rattle.ca_types.specs.Flat.{flat}
+use Rattle.syntax_trees.specs.declared.types.ValType.{ValType}
+use Rattle.syntax_trees.specs.declared.value.Value.{Value}
+use Rattle.syntax_trees.specs.Fits.{fits}
+use Rattle.syntax_trees.specs.Flat.{flat}
 use Rattle.value_lower.specs.Plan.{New, number_of, Plan}
 use Rattle.value_lower.specs.Lowering.{plainly, flat_words}
 use Rattle.value_lower.proofs.Giving.{AllGive}

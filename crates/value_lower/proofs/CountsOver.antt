@@ -1,17 +1,17 @@
 -- As many core values are given as stand for the type, over any way to enter handles and ends that gives an index.
 use Rattle.std.proofs.Common.{◌≡◌, ◌+◌, ◌-◌, ◌*◌, ◌≤◌, ◌&&◌, ℕ, suc, Bool, true, false, List, [], ◌∷◌, ◌++◌, map, length, replicate, Option, Some, None, refl, ap, sym, subst, arith, length-append, rules}
 use Rattle.std.proofs.lemmas.List.{length-replicate}
-use Rattle.ca_types.specs.declared.core_type.CoreType.{CoreType}
-use Rattle.ca_types.specs.declared.types.ValType.{ValType, out-ValType}
-use Rattle.ca_types.specs.declared.types.Field.{Field}
-use Rattle.ca_types.specs.declared.types.ValType.TheOpen as F
-use Rattle.ca_types.specs.declared.value.Value.{Value, out-Value}
-use Rattle.ca_types.specs.declared.value.Value.TheOpen as V
-use Rattle.ca_types.specs.declared.value.Value.TheViews.{the_lemmas, roll-Value}
-use Rattle.ca_types.specs.declared.value.Value.TheFolds.{map-Value, ind-Value, fold-roll-Value}
-use Rattle.ca_types.specs.Fits.{test_of, fits, each_passes}
-use Rattle.ca_types.specs.Flat.{flat, all_of, joined_all}
-use Rattle.ca_types.specs.Layout.{laid, aligned}
+use Rattle.syntax_trees.specs.declared.core_type.CoreType.{CoreType}
+use Rattle.syntax_trees.specs.declared.types.ValType.{ValType, out-ValType}
+use Rattle.syntax_trees.specs.declared.types.Field.{Field}
+use Rattle.syntax_trees.specs.declared.types.ValType.TheOpen as F
+use Rattle.syntax_trees.specs.declared.value.Value.{Value, out-Value}
+use Rattle.syntax_trees.specs.declared.value.Value.TheOpen as V
+use Rattle.syntax_trees.specs.declared.value.Value.TheViews.{the_lemmas, roll-Value}
+use Rattle.syntax_trees.specs.declared.value.Value.TheFolds.{map-Value, ind-Value, fold-roll-Value}
+use Rattle.syntax_trees.specs.Fits.{test_of, fits, each_passes}
+use Rattle.syntax_trees.specs.Flat.{flat, all_of, joined_all}
+use Rattle.laid_types.specs.Layout.{laid, aligned}
 use Rattle.laid_types.specs.Parts.{parts_of, parts_case, part_at}
 use Rattle.laid_types.specs.Gathered.{flats, flat_over}
 use Rattle.laid_types.proofs.ByParts.{flat_by_parts}

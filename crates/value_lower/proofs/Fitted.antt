@@ -2,15 +2,15 @@
 use Rattle.std.proofs.Common.{◌≡◌, ◌∙◌, ◌&&◌, ℕ, zero, suc, Bool, true, false, List, [], ◌∷◌, map, length, Option, Some, None, refl, ap, sym}
 use Rattle.std.specs.List.{slice_get}
 use Rattle.std.specs.Option.{option_and_then}
-use Rattle.ca_types.specs.declared.types.ValType.{ValType, out-ValType}
-use Rattle.ca_types.specs.declared.types.Case.{Case}
-use Rattle.ca_types.specs.declared.types.Field.{Field}
-use Rattle.ca_types.specs.declared.types.ValType.TheOpen as F
-use Rattle.ca_types.specs.declared.types.ValType.TheFolds.{fold-Case, map-ValType}
-use Rattle.ca_types.specs.declared.value.Value.{Value, out-Value}
-use Rattle.ca_types.specs.declared.value.Value.TheOpen as V
-use Rattle.ca_types.specs.Fits.{Test, test_of, fits, fits_step, fits_case, fits_field, payload_test, each_passes, all_pass, payload_passes, case_passes, is_bool, is_s8, is_u8, is_s16, is_u16, is_s32, is_u32, is_s64, is_u64, is_char, is_string, is_record, is_variant, is_list, is_flags, is_enum, is_either, is_own, is_borrow, is_stream, is_future}
-use Rattle.ca_types.proofs.Folds.{held, fold_case, fold_field}
+use Rattle.syntax_trees.specs.declared.types.ValType.{ValType, out-ValType}
+use Rattle.syntax_trees.specs.declared.types.Case.{Case}
+use Rattle.syntax_trees.specs.declared.types.Field.{Field}
+use Rattle.syntax_trees.specs.declared.types.ValType.TheOpen as F
+use Rattle.syntax_trees.specs.declared.types.ValType.TheFolds.{fold-Case, map-ValType}
+use Rattle.syntax_trees.specs.declared.value.Value.{Value, out-Value}
+use Rattle.syntax_trees.specs.declared.value.Value.TheOpen as V
+use Rattle.syntax_trees.specs.Fits.{Test, test_of, fits, fits_step, fits_case, fits_field, payload_test, each_passes, all_pass, payload_passes, case_passes, is_bool, is_s8, is_u8, is_s16, is_u16, is_s32, is_u32, is_s64, is_u64, is_char, is_string, is_record, is_variant, is_list, is_flags, is_enum, is_either, is_own, is_borrow, is_stream, is_future}
+use Rattle.syntax_trees.proofs.Folds.{held, fold_case, fold_field}
 use Rattle.laid_types.specs.Parts.{parts_case}
 use Rattle.value_lower.proofs.Layers.{by_layer}
 

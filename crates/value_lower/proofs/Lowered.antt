@@ -3,7 +3,7 @@ use Rattle.std.proofs.Common.{◌≡◌, ℕ, List, true, false, Some, None, Res
 use Rattle.std.specs.Prelude.{MatchResult}
 use Rattle.std.specs.List.{slice_get}
 use Rattle.std.proofs.lemmas.Bool.{cond-true, cond-false, cases_Bool}
-use Rattle.ca_types.specs.declared.types.ValType.{ValType}
+use Rattle.syntax_trees.specs.declared.types.ValType.{ValType}
 use Rattle.handle_table.specs.Slots.{Slots, TableState}
 use Rattle.handle_table.specs.Calls.{Added}
 use Rattle.res_handles.specs.Calls.{own_handle, borrow_handle, is_defined, NotLowered}

@@ -2,7 +2,7 @@
 use Rattle.std.proofs.Common.{◌≡◌, ◌∙◌, ℕ, List, Option, Some, None, Result, ap, sym, subst}
 use Rattle.std.specs.Prelude.{IfSome}
 use Rattle.std.specs.Option.{option_map}
-use Rattle.ca_types.specs.declared.types.ValType.{ValType}
+use Rattle.syntax_trees.specs.declared.types.ValType.{ValType}
 use Rattle.laid_types.specs.Known.{Numbered}
 use Rattle.value_lower.specs.declared.ends.RoomEnd.{RoomEnd}
 use Rattle.value_lower.specs.declared.ends.LowerError.{LowerError}

@@ -1,6 +1,6 @@
 -- A plan comes to one thing over a room with a table, where no type stands twice among those by which ends are told.
 use Rattle.std.proofs.Common.{◌≡◌, ◌∙◌, ℕ, List, Option, Some, None, Result, refl, sym, ap, arith}
-use Rattle.ca_types.specs.declared.types.ValType.{ValType}
+use Rattle.syntax_trees.specs.declared.types.ValType.{ValType}
 use Rattle.laid_types.specs.SameTypes.{AreDistinct}
 use Rattle.handle_table.specs.Slots.{Slots, added}
 use Rattle.res_handles.specs.declared.handle.Handle.{Handle}

@@ -6,9 +6,9 @@ use Rattle.std.specs.Option.{option_and_then, option_map}
 use Rattle.std.proofs.Math.Seq.{drop-cons}
 use Rattle.std.proofs.lemmas.List.{length-map, drop_all}
 use Rattle.std.proofs.lemmas.Bool.{cond-false, le-ltb, and_right, cases_lt}
-use Rattle.ca_types.specs.declared.types.ValType.{ValType}
-use Rattle.ca_types.specs.declared.value.Value.{Value}
-use Rattle.ca_types.specs.Layout.{laid, aligned, tag_size}
+use Rattle.syntax_trees.specs.declared.types.ValType.{ValType}
+use Rattle.syntax_trees.specs.declared.value.Value.{Value}
+use Rattle.laid_types.specs.Layout.{laid, aligned, tag_size}
 use Rattle.laid_types.specs.Parts.{part_at, case_count, payload_place}
 use Rattle.value_lower.specs.declared.ends.LowerWhy.TheVariants.{Bounds}
 use Rattle.value_lower.specs.Plan.{New, Plan, Fails, Put}

@@ -1,13 +1,13 @@
 -- Values by their outer layers.
 use Rattle.std.proofs.Common.{◌≡◌, ◌∙◌, ℕ, Bool, List, map, Option, Some, None, refl, ap, rules}
 use Rattle.std.specs.Option.{option_map}
-use Rattle.ca_types.specs.declared.value.Handle.{Handle}
-use Rattle.ca_types.specs.declared.value.Value.{Value, out-Value}
-use Rattle.ca_types.specs.declared.value.Value.TheOpen as V
-use Rattle.ca_types.specs.declared.value.Value.TheViews as values
-use Rattle.ca_types.specs.declared.value.Value.TheVariants as plain
-use Rattle.ca_types.specs.declared.value.Value.TheViews.{the_lemmas}
-use Rattle.ca_types.specs.declared.value.Value.TheFolds.{map-Value}
+use Rattle.syntax_trees.specs.declared.value.Handle.{Handle}
+use Rattle.syntax_trees.specs.declared.value.Value.{Value, out-Value}
+use Rattle.syntax_trees.specs.declared.value.Value.TheOpen as V
+use Rattle.syntax_trees.specs.declared.value.Value.TheViews as values
+use Rattle.syntax_trees.specs.declared.value.Value.TheVariants as plain
+use Rattle.syntax_trees.specs.declared.value.Value.TheViews.{the_lemmas}
+use Rattle.syntax_trees.specs.declared.value.Value.TheFolds.{map-Value}
 use Rattle.value_lower.specs.Plan.{New, Plan}
 use Rattle.value_lower.specs.Storing.{Lowered}
 use Rattle.value_lower.specs.Entering.{lowered, layer_of}

@@ -3,11 +3,11 @@
 -- It is said by cases on the value, as a plan with what follows it. What a handle or an end is entered for goes on with its index.
 use Rattle.std.specs.Prelude.{ℕ, ◌*◌, List, [], ◌∷◌, ◌++◌, map, length}
 use Rattle.std.specs.Int.{w32, to_le_bytes}
-use Rattle.ca_types.specs.declared.types.ValType.{ValType}
-use Rattle.ca_types.specs.declared.value.Value.{Value, fold-Value, out-Value}
-use Rattle.ca_types.specs.declared.value.Value.TheOpen.{Value-F}
-use Rattle.ca_types.specs.declared.value.Value.TheFolds.{map-Value}
-use Rattle.ca_types.specs.Layout.{laid, bits_size}
+use Rattle.syntax_trees.specs.declared.types.ValType.{ValType}
+use Rattle.syntax_trees.specs.declared.value.Value.{Value, fold-Value, out-Value}
+use Rattle.syntax_trees.specs.declared.value.Value.TheOpen.{Value-F}
+use Rattle.syntax_trees.specs.declared.value.Value.TheFolds.{map-Value}
+use Rattle.laid_types.specs.Layout.{laid, bits_size}
 use Rattle.laid_types.specs.Parts.{parts_of, part_at}
 use Rattle.value_lower.specs.Plan.{New, NewOwn, NewBorrow, NewEnd, Plan, Gives, Put}
 use Rattle.value_lower.specs.Storing.{Lowered, plain_bytes, plain_word, number_bytes, flags_number, tested, asked, text_in, elements_from, list_in, pointed, fields_from, case_from, field_words, case_words}

@@ -1,6 +1,6 @@
 -- What is entered for a value that is told by an index (Component Model, CanonicalABI.md, `lower_own`, `lower_borrow`, `lower_stream` and
 -- `lower_future`).
-use Rattle.ca_types.specs.declared.types.ValType.{ValType}
+use Rattle.syntax_trees.specs.declared.types.ValType.{ValType}
 use Rattle.value_lower.specs.declared.new_entry.NewEntry.{NewEntry}
 use Rattle.value_lower.specs.declared.new_entry.NewEntry.TheVariants as entry
 use Rattle.value_lower.specs.Plan.{New, NewOwn, NewBorrow, NewEnd}

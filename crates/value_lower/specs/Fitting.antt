@@ -2,11 +2,11 @@
 -- types of their places.
 use Rattle.std.specs.Prelude.{◌≡◌, ◌≢◌, ◌≤◌, ◌<◌, ◌^◌, ◌%◌, ℕ, ◌+◌, true, List, length, Option, Some}
 use Rattle.std.specs.List.{slice_get}
-use Rattle.ca_types.specs.declared.types.ValType.{ValType}
-use Rattle.ca_types.specs.declared.value.Value.{Value}
-use Rattle.ca_types.specs.Fits.{fits}
-use Rattle.ca_types.specs.Flat.{flat}
-use Rattle.ca_types.specs.Layout.{laid, tag_size}
+use Rattle.syntax_trees.specs.declared.types.ValType.{ValType}
+use Rattle.syntax_trees.specs.declared.value.Value.{Value}
+use Rattle.syntax_trees.specs.Fits.{fits}
+use Rattle.syntax_trees.specs.Flat.{flat}
+use Rattle.laid_types.specs.Layout.{laid, tag_size}
 use Rattle.laid_types.specs.Parts.{part_at, case_count, payload_place}
 pub use Rattle.laid_types.specs.Placing.{end_behind}
 use Rattle.value_lower.specs.declared.ends.LowerWhy.{LowerWhy}

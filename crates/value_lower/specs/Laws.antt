@@ -1,9 +1,9 @@
 -- What holds of plans alone.
 use Rattle.std.specs.Prelude.{◌≡◌, ℕ, true, List, length, Option, Result}
-use Rattle.ca_types.specs.declared.types.ValType.{ValType}
-use Rattle.ca_types.specs.declared.value.Value.{Value}
-use Rattle.ca_types.specs.Fits.{fits}
-use Rattle.ca_types.specs.Flat.{flat}
+use Rattle.syntax_trees.specs.declared.types.ValType.{ValType}
+use Rattle.syntax_trees.specs.declared.value.Value.{Value}
+use Rattle.syntax_trees.specs.Fits.{fits}
+use Rattle.syntax_trees.specs.Flat.{flat}
 use Rattle.value_lower.specs.declared.ends.RoomEnd.{RoomEnd}
 use Rattle.value_lower.specs.Plan.{Ask, New, Plan}
 use Rattle.value_lower.specs.Following.{Rooms, untabled, Came, Words, Follows}

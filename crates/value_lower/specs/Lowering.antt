@@ -1,9 +1,9 @@
 -- Lowering where a handle and the end of a stream or a future are told by the numbers that they have (Component Model, CanonicalABI.md,
 -- "Storing", "Flat Lowering").
 use Rattle.std.specs.Prelude.{ℕ, List}
-use Rattle.ca_types.specs.declared.types.ValType.{ValType}
-use Rattle.ca_types.specs.declared.value.Value.{Value}
-use Rattle.ca_types.specs.declared.value.Value.TheOpen.{Value-F}
+use Rattle.syntax_trees.specs.declared.types.ValType.{ValType}
+use Rattle.syntax_trees.specs.declared.value.Value.{Value}
+use Rattle.syntax_trees.specs.declared.value.Value.TheOpen.{Value-F}
 use Rattle.value_lower.specs.Plan.{New, number_of, Plan}
 use Rattle.value_lower.specs.Storing.{Lowered}
 pub use Rattle.value_lower.specs.Storing.{Lowered, plain_bytes, plain_word, width_of, number_bytes, bits_of, flags_number, tested, asked, text_in, elements_from, list_in, pointed, fields_from, payload_at, case_from, field_words, payload_words, filled, case_words}

@@ -1,7 +1,7 @@
 -- Lowering as a plan (Component Model, CanonicalABI.md, "Storing", "Flat Lowering"): what it asks of the memory of a component
 -- instance, of the code that gives out its places, and of the instance's table, and how it goes on with each answer.
 use Rattle.std.specs.Prelude.{ℕ, List, Option}
-use Rattle.ca_types.specs.declared.types.ValType.{ValType}
+use Rattle.syntax_trees.specs.declared.types.ValType.{ValType}
 use Rattle.value_lower.specs.declared.ends.LowerWhy.{LowerWhy}
 
 -- The arguments of a realloc: an earlier place and its size, an alignment and a size.

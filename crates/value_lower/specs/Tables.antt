@@ -3,7 +3,7 @@
 -- table as it is, and an entry leaves the room as it is.
 use Rattle.std.specs.Prelude.{◌≡◌, ◌⊎◌, ℕ, ◌<◌, List, Option, Some, None, Result, Ok, Err, if◌then◌else◌}
 use Rattle.std.specs.List.{slice_get}
-use Rattle.ca_types.specs.declared.types.ValType.{ValType}
+use Rattle.syntax_trees.specs.declared.types.ValType.{ValType}
 use Rattle.handle_table.specs.History.{most_live}
 use Rattle.handle_table.specs.Slots.{Slots, count, next_of, added}
 use Rattle.res_handles.specs.declared.handle.Handle.{Handle}

@@ -1,7 +1,7 @@
 //! New places, and tests of places.
 
 ghost use Rattle.std.specs.Prelude.{◌≡◌, ◌≢◌, ◌+◌, ◌%◌, ◌<◌, ◌≤◌, ◌^◌, ℕ, List, length, IfOk, MatchResult};
-ghost use Rattle.ca_types.specs.declared.types.ValType.{ValType};
+ghost use Rattle.syntax_trees.specs.declared.types.ValType.{ValType};
 ghost use Rattle.value_lower.specs.declared.ends.LowerWhy.TheVariants.{Misaligned, Bounds};
 ghost use Rattle.value_lower.specs.Plan.{Plan};
 ghost use Rattle.value_lower.specs.Following.{Runs, rooms_of};

@@ -1,9 +1,9 @@
 //! Values without handles and ends.
 
 ghost use Rattle.std.specs.Prelude.{◌≡◌, ◌≤◌, ◌∷◌, [], true, false, length, IfOk};
-ghost use Rattle.ca_types.specs.Ends.{has_end};
-ghost use Rattle.ca_types.specs.Fits.{fits};
-ghost use Rattle.ca_types.specs.Flat.{flat};
+ghost use Rattle.syntax_trees.specs.Ends.{has_end};
+ghost use Rattle.syntax_trees.specs.Fits.{fits};
+ghost use Rattle.syntax_trees.specs.Flat.{flat};
 ghost use Rattle.laid_types.specs.Handles.{has_handle};
 ghost use Rattle.value_lower.specs.Following.{Comes, untabled};
 ghost use Rattle.value_lower.specs.Lowering.{stored, all_stored, placed, flat_lowered};
@@ -14,10 +14,10 @@ use crate::ends::LowerError;
 use crate::room::Room;
 use crate::stores::{lower_placed_by, store_by, store_list_by};
 use crate::words::{Words, lower_flat_by};
-use ca_types::Value;
 use laid_types::LaidType;
 use res_handles::Home;
 use std::alloc::Global;
+use syntax_trees::Value;
 
 /// Stores a value at a place, as `store` (Component Model, CanonicalABI.md, "Storing"). The type holds no handle and no end of a stream
 /// or a future, so no table is needed.

@@ -14,7 +14,7 @@ use std::alloc::Global;
 /// resources that the instance defines.
 pub trait Beside<R> {
     ghost use Rattle.std.specs.Prelude.{◌≡◌, ◌+◌, ◌≤◌, ◌^◌, ◌++◌, ℕ, List, length, take, drop, Option, Result};
-    ghost use Rattle.ca_types.specs.declared.types.ValType.{ValType};
+    ghost use Rattle.syntax_trees.specs.declared.types.ValType.{ValType};
     ghost use Rattle.value_lower.specs.declared.ends.RoomEnd.{RoomEnd};
     ghost use Rattle.value_lower.specs.Plan.{Ask, New, Plan};
     ghost use Rattle.value_lower.specs.Following.{Runs, rooms_of};

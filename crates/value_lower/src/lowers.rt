@@ -1,8 +1,8 @@
 //! Values with handles and ends.
 
 ghost use Rattle.std.specs.Prelude.{◌≡◌, ◌≤◌, ◌∷◌, [], true, length, IfOk};
-ghost use Rattle.ca_types.specs.Fits.{fits};
-ghost use Rattle.ca_types.specs.Flat.{flat};
+ghost use Rattle.syntax_trees.specs.Fits.{fits};
+ghost use Rattle.syntax_trees.specs.Flat.{flat};
 ghost use Rattle.value_lower.specs.Following.{Comes};
 ghost use Rattle.value_lower.specs.Entering.{stored, all_stored, placed, flat_lowered};
 ghost use Rattle.value_lower.specs.Tables.{tabled, entered, IsEntry};
@@ -12,11 +12,11 @@ use crate::ends::LowerError;
 use crate::room::Room;
 use crate::stores::{lower_placed_by, store_by, store_list_by};
 use crate::words::{Words, lower_flat_by};
-use ca_types::Value;
 use handle_table::Table;
 use laid_types::NumberedType;
 use res_handles::{Entry, Home};
 use std::alloc::Global;
+use syntax_trees::Value;
 
 /// Stores a value at a place (Component Model, CanonicalABI.md, "Storing"). Padding, and the bytes that a payload leaves over, stay as
 /// they are.

@@ -1,11 +1,11 @@
 //! What is entered for a value that is told by an index.
 
 ghost use Rattle.std.specs.Prelude.{◌≡◌};
-ghost use Rattle.ca_types.specs.declared.types.ValType.{ValType};
+ghost use Rattle.syntax_trees.specs.declared.types.ValType.{ValType};
 ghost use Rattle.value_lower.specs.Plan.{number_of};
 ghost use Rattle.value_lower.specs.Entries.{new_of};
 
-use ca_types::Handle;
+use syntax_trees::Handle;
 
 /// What is entered for a value that is told by an index.
 #[derive(Clone, Copy)]

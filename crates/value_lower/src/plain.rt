@@ -2,15 +2,15 @@
 
 ghost use Rattle.std.specs.Prelude.{◌≡◌, ◌+◌, ◌≤◌, ◌%◌, ◌^◌, ℕ, List, length};
 ghost use Rattle.std.specs.Int.{w32, byte_len, to_le_bytes};
-ghost use Rattle.ca_types.specs.declared.types.ValType.{ValType};
-ghost use Rattle.ca_types.specs.declared.value.Value.{out-Value};
+ghost use Rattle.syntax_trees.specs.declared.types.ValType.{ValType};
+ghost use Rattle.syntax_trees.specs.declared.value.Value.{out-Value};
 ghost use Rattle.value_lower.specs.Plan.{Plan, Put};
 ghost use Rattle.value_lower.specs.Following.{Leads, rooms_of};
 ghost use Rattle.value_lower.specs.Storing.{number_bytes, width_of, bits_of, flags_number, plain_bytes, plain_word, pointed};
 ghost use Rattle.value_lower.specs.Fitting.{HasBytes};
 
 use crate::beside::Beside;
-use ca_types::Value;
+use syntax_trees::Value;
 
 /// Puts bytes at a place.
 pub(crate) fn put<R, B: Beside<R>>(room: &mut R, beside: &B, place: u64, bytes: &[u8])

@@ -1,7 +1,7 @@
 //! Values into a memory, at places that are tested.
 
 ghost use Rattle.std.specs.Prelude.{◌≡◌, ◌∷◌, [], true};
-ghost use Rattle.ca_types.specs.Fits.{fits};
+ghost use Rattle.syntax_trees.specs.Fits.{fits};
 ghost use Rattle.value_lower.specs.Following.{Comes, rooms_of};
 ghost use Rattle.value_lower.specs.Entering.{stored, all_stored, placed};
 ghost use Rattle.value_lower.specs.Fitting.{AllFit};
@@ -10,10 +10,10 @@ use crate::asking::{ask, test_place};
 use crate::beside::Beside;
 use crate::ends::LowerError;
 use crate::storing::{store_elements, store_value};
-use ca_types::Value;
 use laid_types::NumberedType;
 use res_handles::Home;
 use std::alloc::Global;
+use syntax_trees::Value;
 
 /// Stores a value at a place, as `store`, with what stands beside the room.
 pub fn store_by<R, B: Beside<R>>(

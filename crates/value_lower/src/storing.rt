@@ -2,9 +2,9 @@
 
 ghost use Rattle.std.specs.Prelude.{◌≡◌, ◌*◌, ◌≤◌, ◌<◌, ◌^◌, ℕ, List, true, length, map, Some, IfOk};
 ghost use Rattle.std.specs.Option.{option_map};
-ghost use Rattle.ca_types.specs.declared.types.ValType.{ValType};
-ghost use Rattle.ca_types.specs.Fits.{fits};
-ghost use Rattle.ca_types.specs.Layout.{laid};
+ghost use Rattle.syntax_trees.specs.declared.types.ValType.{ValType};
+ghost use Rattle.syntax_trees.specs.Fits.{fits};
+ghost use Rattle.laid_types.specs.Layout.{laid};
 ghost use Rattle.laid_types.specs.Parts.{part_at, parts_of};
 ghost use Rattle.value_lower.specs.Plan.{Plan};
 ghost use Rattle.value_lower.specs.Following.{Runs, rooms_of};
@@ -18,10 +18,11 @@ use crate::beside::Beside;
 use crate::ends::{LowerError, LowerWhy};
 use crate::new_entry::NewEntry;
 use crate::plain::{flags_number, put_number, put_plain, put_pointed, put32};
-use ca_types::{Boxed, Value, aligned};
 use laid_types::NumberedType;
+use layouts::aligned;
 use res_handles::Home;
 use std::alloc::Global;
+use syntax_trees::{Boxed, Value};
 
 /// Stores a text at a new place, and that place and the number of its bytes at a place.
 fn store_text<R, B: Beside<R>>(

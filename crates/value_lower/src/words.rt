@@ -2,9 +2,9 @@
 
 ghost use Rattle.std.specs.Prelude.{◌≡◌, ◌≤◌, ◌++◌, ◌∷◌, [], ℕ, List, true, length, map, Some, OnOk};
 ghost use Rattle.std.specs.Option.{option_map};
-ghost use Rattle.ca_types.specs.declared.types.ValType.{ValType};
-ghost use Rattle.ca_types.specs.Fits.{fits};
-ghost use Rattle.ca_types.specs.Flat.{flat};
+ghost use Rattle.syntax_trees.specs.declared.types.ValType.{ValType};
+ghost use Rattle.syntax_trees.specs.Fits.{fits};
+ghost use Rattle.syntax_trees.specs.Flat.{flat};
 ghost use Rattle.laid_types.specs.Parts.{part_at, parts_of};
 ghost use Rattle.value_lower.specs.Plan.{Plan};
 ghost use Rattle.value_lower.specs.Following.{Runs, Comes, rooms_of};
@@ -19,11 +19,10 @@ use crate::ends::LowerError;
 use crate::new_entry::NewEntry;
 use crate::plain::{flags_number, plain_word};
 use crate::storing::list_in;
-use ca_base::Seq;
-use ca_types::{Boxed, Value};
 use laid_types::NumberedType;
 use res_handles::Home;
 use std::alloc::{AllocError, Global};
+use syntax_trees::{Boxed, Seq, Value};
 
 /// Core values: one of 32 bits is below 2^32.
 pub type Words = Seq<u64>;

@@ -2,7 +2,7 @@
 use Rattle.std.proofs.Common.{ℕ, List, refl, Option, Some, None}
 use Rattle.std.specs.List.{slice_get}
 use Rattle.std.specs.Option.{option_map}
-use Rattle.ca_types.specs.declared.types.ValType.{ValType}
+use Rattle.syntax_trees.specs.declared.types.ValType.{ValType}
 use Rattle.laid_types.specs.Known.{Numbered, numbered_at}
 use Rattle.laid_types.specs.SameTypes.{AreDistinct}
 use Rattle.programs.specs.declared.program.Program.{Program}

@@ -1,8 +1,8 @@
 -- Borrow handles that a task gets with its arguments (Component Model, CanonicalABI.md, `lower_borrow`, "Task State"): each counts for the task,
 -- until it is dropped. In an instance that defines the resource the representation stands for it, and nothing counts.
 use Rattle.std.specs.Prelude.{ℕ, if◌then◌else◌, List, [], ◌∷◌, Option, Some, None}
-use Rattle.ca_types.specs.declared.value.Value.{Value, fold-Value}
-use Rattle.ca_types.specs.declared.value.Value.TheOpen.{Value-F}
+use Rattle.syntax_trees.specs.declared.value.Value.{Value, fold-Value}
+use Rattle.syntax_trees.specs.declared.value.Value.TheOpen.{Value-F}
 use Rattle.res_handles.specs.Calls.{is_defined}
 use Rattle.tasks.specs.declared.event.TaskEvent.TheVariants as event
 use Rattle.world_parts.specs.Held.{Held, Done, Gives, after}

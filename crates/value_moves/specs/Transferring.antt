@@ -1,7 +1,7 @@
 -- Elements that go over (Component Model, CanonicalABI.md, `canon stream.{read,write}`, `canon future.{read,write}`): they are lifted from the side that
 -- writes and lowered to the side that reads, for the task that reads; then the copy has its line and completes the call.
 use Rattle.std.specs.Prelude.{◌≡◌, ℕ, List, Option, Some, None}
-use Rattle.ca_types.specs.declared.value.Value.{Value}
+use Rattle.syntax_trees.specs.declared.value.Value.{Value}
 use Rattle.laid_types.specs.Known.{Numbered, numbered_at}
 use Rattle.copy_replies.specs.declared.moving.Moving.{Moving}
 use Rattle.copy_replies.specs.Moves.{moving, completed}

@@ -6,7 +6,7 @@ ghost use Rattle.res_handles.specs.Calls.{is_defined};
 ghost use Rattle.world_parts.specs.Held.{Does};
 ghost use Rattle.value_moves.specs.Borrowing.{all_done, payload_done, borrow_counted, borrows_counted};
 
-use ca_types::{Boxed, Value};
+use syntax_trees::{Boxed, Value};
 use tasks::TaskEvent;
 use world_parts::{Part, Parts};
 

@@ -1,7 +1,7 @@
 //! Arguments and results that are lowered.
 
 ghost use Rattle.std.specs.Prelude.{◌≡◌, ◌≤◌, length, Some};
-ghost use Rattle.ca_types.specs.Flat.{flat};
+ghost use Rattle.syntax_trees.specs.Flat.{flat};
 ghost use Rattle.copy_engine.specs.declared.lower_values.Target.TheVariants as targets;
 ghost use Rattle.world_parts.specs.Held.{Does, held};
 ghost use Rattle.value_parts.specs.Coming.{May};
@@ -10,13 +10,13 @@ ghost use Rattle.value_moves.specs.Lowered.{arguments_target, LowersPassed, argu
 
 use crate::borrowing::count_borrows;
 use crate::lowering::{Destination, destination_at, lower_into};
-use ca_types::Value;
 use comp_graph::Options;
 use copy_engine::Target;
 use graph_views::{canon_at, instance_of, lift_of, options_of};
 use laid_types::NumberedType;
 use programs::Program;
 use std::alloc::Global;
+use syntax_trees::Value;
 use task_table::{Callee, Caller, Words};
 use value_parts::takes_more;
 use world_parts::{Part, Parts, Stop, same_words};

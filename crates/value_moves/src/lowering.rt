@@ -1,8 +1,8 @@
 //! Values that are lowered into the memory and the table of an instance.
 
 ghost use Rattle.std.specs.Prelude.{◌≡◌, ◌≤◌, length, true, IfOk};
-ghost use Rattle.ca_types.specs.Fits.{fits};
-ghost use Rattle.ca_types.specs.Flat.{flat};
+ghost use Rattle.syntax_trees.specs.Fits.{fits};
+ghost use Rattle.syntax_trees.specs.Flat.{flat};
 ghost use Rattle.value_lower.specs.Fitting.{AllFit};
 ghost use Rattle.value_lower.specs.Tables.{IsEntry};
 ghost use Rattle.copy_engine.specs.declared.lower_values.Target.TheVariants as targets;
@@ -15,18 +15,20 @@ ghost use Rattle.world_parts.specs.Held.{Does, Tells, held};
 ghost use Rattle.value_parts.specs.Coming.{Comes, May};
 ghost use Rattle.value_moves.specs.Lowering.{address_or_none, destination_at, act_told, got_told, all_told, lower_name, call_refused, code_trapped, lowered_by, finished, LowersInto, LowersAll};
 
-use ca_base::{Fuel, Memory, Seq};
-use ca_types::{Value, fits};
+use ca_base::Fuel;
+use ca_types::fits;
 use comp_graph::{Graph, Options};
 use copy_engine::{
     Act, Acts, CallRefusal, HostedTrap, LowerOptions, Lowered, Lowering, Target, lower, lower_list,
 };
+use faults::Memory;
 use graph_views::{builtin_of, canon_at};
 use instances::Instance;
 use laid_types::NumberedType;
 use programs::Program;
 use res_handles::Home;
 use std::alloc::Global;
+use syntax_trees::{Seq, Value};
 use task_table::Words;
 use trace_labels::{Label, TrapName};
 use value_lower::LowerWhy;

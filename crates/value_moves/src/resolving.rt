@@ -8,8 +8,8 @@ ghost use Rattle.value_parts.specs.Coming.{May};
 ghost use Rattle.value_moves.specs.Resolving.{PassesOn, Resolves, ResolvesEnded, PostReturnsTo, Ends, type_by, return_tested, ReturnResolves, TestedResolves, Returns};
 
 use crate::lowered::lower_result;
-use ca_base::Memory;
 use comp_graph::FuncRef;
+use faults::Memory;
 use graph_views::options_at;
 use laid_types::NumberedType;
 use programs::{Program, same_value};

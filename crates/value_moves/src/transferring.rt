@@ -8,12 +8,12 @@ ghost use Rattle.value_parts.specs.Coming.{May};
 ghost use Rattle.value_moves.specs.Transferring.{origin_of, reader_of, copied_values, Reads, MovesOver, MovesElements, Transfers};
 
 use crate::lowering::{Destination, destination_at, lower_all_into};
-use ca_base::Memory;
-use ca_types::Values;
 use copy_replies::{Moving, complete, moving_of};
+use faults::Memory;
 use laid_types::NumberedType;
 use programs::Program;
 use std::alloc::Global;
+use syntax_trees::Values;
 use trace_labels::{Copied, TypedValues};
 use value_parts::{Origin, lift_elements};
 use world_parts::{Copying, Flow, Part, Parts, Stop};

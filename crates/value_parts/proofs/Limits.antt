@@ -2,7 +2,7 @@
 use Rattle.std.proofs.Common.{◌≡◌, ◌≤◌, ◌<◌, ℕ, List, length, take, sym, ap, ◌∙◌, arith, inl, inr, length-take}
 use Rattle.std.specs.Prelude.{nat_lt}
 use Rattle.std.proofs.lemmas.Bool.{lt-ltb, cases_lt}
-use Rattle.ca_types.specs.declared.core_type.CoreType.{CoreType}
+use Rattle.syntax_trees.specs.declared.core_type.CoreType.{CoreType}
 
 same_tests : (limit a b : ℕ) → limit < a → limit < b → nat_lt limit a ≡ nat_lt limit b
 same_tests limit a b h i = lt-ltb limit a h ∙ sym (lt-ltb limit b i)

@@ -2,8 +2,8 @@
 use Rattle.std.proofs.Common.{◌≡◌, ◌<◌, ℕ, List, [], length, get_or, sym, ap, ◌∙◌, subst, Option, Some, Result, Ok, Err}
 use Rattle.std.proofs.lemmas.Option.{get_or_from_slice_get}
 use Rattle.std.specs.List.{slice_get}
-use Rattle.ca_base.specs.declared.memory.MemoryOr.{MemoryOr}
-use Rattle.ca_base.specs.declared.memory.MemoryOr.TheVariants.{Memory, Fault}
+use Rattle.faults.specs.declared.memory.MemoryOr.{MemoryOr}
+use Rattle.faults.specs.declared.memory.MemoryOr.TheVariants.{Memory, Fault}
 use Rattle.handle_table.specs.Slots.{Slots}
 use Rattle.value_lift.specs.declared.moved.Moved.{Moved}
 use Rattle.value_lift.specs.declared.trap.LiftTrap.{LiftTrap}

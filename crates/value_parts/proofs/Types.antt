@@ -1,7 +1,7 @@
 -- Types that are looked up by numbers are of the table in which they are.
 use Rattle.std.proofs.Common.{◌≡◌, ℕ, List, ap, sym, subst, Option, Some, None}
 use Rattle.std.specs.List.{slice_get}
-use Rattle.ca_types.specs.declared.types.ValType.{ValType}
+use Rattle.syntax_trees.specs.declared.types.ValType.{ValType}
 use Rattle.laid_types.specs.Known.{Numbered, numbered_at}
 use Rattle.laid_types.specs.SameTypes.{AreDistinct}
 use Rattle.task_table.specs.declared.errand.Callee.{Callee}

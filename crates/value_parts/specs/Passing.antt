@@ -2,9 +2,9 @@
 -- one tuple, by the words of a call; a result by those with which a core function ended, or with which `task.return` is called.
 use Rattle.std.specs.Prelude.{ℕ, Bool, if◌then◌else◌, List, Option, Some, None}
 use Rattle.std.specs.List.{slice_get}
-use Rattle.ca_types.specs.declared.types.ValType.{ValType, out-ValType}
-use Rattle.ca_types.specs.declared.value.Value.{Value}
-use Rattle.ca_types.specs.declared.value.Value.TheViews as value
+use Rattle.syntax_trees.specs.declared.types.ValType.{ValType, out-ValType}
+use Rattle.syntax_trees.specs.declared.value.Value.{Value}
+use Rattle.syntax_trees.specs.declared.value.Value.TheViews as value
 use Rattle.laid_types.specs.Known.{Numbered, numbered_at}
 use Rattle.value_lift.specs.Lifting.{tuple_case}
 use Rattle.value_lift.specs.declared.counting.LiftOf.TheVariants as whole

@@ -1,7 +1,7 @@
 //! Values from the memory at an address and the table of an instance.
 
 ghost use Rattle.std.specs.Prelude.{◌≡◌, ◌≤◌, ◌^◌, length, nat_lt};
-ghost use Rattle.ca_types.specs.Flat.{flat};
+ghost use Rattle.syntax_trees.specs.Flat.{flat};
 ghost use Rattle.laid_types.specs.SameTypes.{AreDistinct};
 ghost use Rattle.instances.specs.Entries.{seen_as};
 ghost use Rattle.instances.specs.Instances.{with_slots};
@@ -15,11 +15,11 @@ ghost use Rattle.value_parts.specs.Lifting.{FewLent, over_table, SettlesFor, loa
 use crate::loans::move_all;
 use crate::memories::bytes_at;
 use crate::names::lift_name;
-use ca_base::{MemoryOr, Seq};
-use ca_types::{Value, Values};
+use faults::MemoryOr;
 use instances::Instance;
 use laid_types::NumberedType;
 use std::alloc::Global;
+use syntax_trees::{Seq, Value, Values};
 use value_lift::{LiftError, LiftOf, Moved, lift_flat, load, load_list};
 use wasm_store::Store;
 use world_parts::{Part, Parts, Stop, word_in};

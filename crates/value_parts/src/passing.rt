@@ -2,19 +2,19 @@
 
 ghost use Rattle.std.specs.Prelude.{◌≡◌, ◌≤◌};
 ghost use Rattle.laid_types.specs.SameTypes.{AreDistinct};
-ghost use Rattle.ca_types.specs.declared.types.ValType.{out-ValType};
+ghost use Rattle.syntax_trees.specs.declared.types.ValType.{out-ValType};
 ghost use Rattle.value_lift.specs.Lifting.{tuple_case};
 ghost use Rattle.world_parts.specs.Held.{Does, held};
 ghost use Rattle.value_parts.specs.Lifting.{FewLent};
 ghost use Rattle.value_parts.specs.Passing.{passed_limit, host_arguments, arguments_passed, guest_arguments, arguments_lifted, typed_result, result_of_type, result_lifted, ended_lifted, returned_lifted};
 
 use crate::lifting::{Origin, lift_passed};
-use ca_types::{ValType, Value};
 use comp_graph::CanonFunc;
 use graph_views::{canon_at, instance_of, lift_of, options_at, options_of};
 use laid_types::NumberedType;
 use programs::{Program, same_values};
 use std::alloc::Global;
+use syntax_trees::{ValType, Value};
 use task_table::Caller;
 use trace_labels::TypedValue;
 use value_lift::LiftOf;

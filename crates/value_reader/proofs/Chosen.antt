@@ -4,9 +4,9 @@ use Rattle.std.specs.List.{slice_get, position, position_or_len}
 use Rattle.std.specs.Str.{bytes_eq}
 use Rattle.std.proofs.lemmas.List.{length-map}
 use Rattle.std.specs.Option.{option_map, option_and_then}
-use Rattle.ca_types.specs.declared.types.Case.{Case}
-use Rattle.ca_types.specs.ValueText.{Labelled}
-use Rattle.ca_types.proofs.Parts.{get_image}
+use Rattle.syntax_trees.specs.declared.types.Case.{Case}
+use Rattle.syntax_trees.specs.ValueText.{Labelled}
+use Rattle.syntax_trees.proofs.Parts.{get_image}
 use Rattle.value_reader.specs.Tokens.{label_of, behind_label}
 use Rattle.value_reader.specs.Values.{Reader, variant_at, place_of, chosen_at, case_at, case_reader, payload_reader}
 use Rattle.value_reader.proofs.ReaderEquations.{labels_of_cases}

@@ -1,6 +1,6 @@
 -- One element of a list behind others.
 use Rattle.std.proofs.Common.{◌≡◌, ◌<◌, ℕ, zero, suc, List, [], ◌∷◌, ◌++◌, Some, None, refl, arith}
-use Rattle.ca_types.specs.declared.value.Value.{Value}
+use Rattle.syntax_trees.specs.declared.value.Value.{Value}
 use Rattle.value_reader.specs.Tokens.{without_blanks, after_mark}
 use Rattle.value_reader.specs.Values.{Reader, elements_from}
 

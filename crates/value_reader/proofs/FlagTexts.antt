@@ -3,7 +3,7 @@ use Rattle.std.proofs.Common.{◌≡◌, ◌≢◌, ◌∙◌, ◌⊎◌, inl, i
 use Rattle.std.specs.Option.{option_map, option_and_then}
 use Rattle.std.proofs.lemmas.Bool.{cases_Bool}
 use Rattle.std.proofs.lemmas.Slice.Eq.{bytes_eq-Decides}
-use Rattle.ca_types.specs.ValueText.{set_labels}
+use Rattle.syntax_trees.specs.ValueText.{set_labels}
 use Rattle.value_reader.specs.Tokens.{ends_label, without_blanks, after, after_mark, label_of, behind_label, is_next, behind_next}
 use Rattle.value_reader.specs.Values.{behind_flag, closed_or_more, flags_from, flags_within, flags_in}
 use Rattle.value_reader.specs.Written.{AreBlanks, IsLabel, IsSpacedLabel, AreLabels, IsNotNext, AreFlags}

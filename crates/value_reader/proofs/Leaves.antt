@@ -6,8 +6,8 @@ use Rattle.std.specs.Char.{encode_utf8, IsScalar}
 use Rattle.std.specs.Str.{IsUtf8, is_utf8, chars, all_scalars}
 use Rattle.std.proofs.lemmas.Bool.{and_from}
 use Rattle.std.proofs.lemmas.Str.{chars-encodes, is_utf8-from_IsUtf8}
-use Rattle.ca_types.specs.declared.value.Value.{Value}
-use Rattle.ca_types.specs.declared.value.Value.TheVariants as plain
+use Rattle.syntax_trees.specs.declared.value.Value.{Value}
+use Rattle.syntax_trees.specs.declared.value.Value.TheVariants as plain
 use Rattle.value_reader.specs.Tokens.{is_blank, without_blanks, unsigned_at, signed_at}
 use Rattle.value_reader.specs.Quoted.{literal_at, only}
 use Rattle.value_reader.specs.Values.{found, char_value_at, string_value_at}

@@ -7,8 +7,8 @@ use Rattle.std.proofs.lemmas.Bool.Decides.{nat_tests}
 use Rattle.std.proofs.lemmas.Str.{chars-IsAscii}
 use Rattle.std.proofs.lemmas.Str.Ascii.{IsAscii-nil, IsAscii-cons}
 use Rattle.std.specs.Char.Escape.{escape_unicode}
-use Rattle.ca_base.specs.Names.{is_among}
-use Rattle.ca_types.specs.NameText.{is_plain, char_text, name_text}
+use Rattle.syntax_trees.specs.Names.{is_among}
+use Rattle.syntax_trees.specs.NameText.{is_plain, char_text, name_text}
 use Rattle.value_reader.specs.Tokens.{ends_label}
 use Rattle.value_reader.specs.Writable.{is_label, are_labels}
 

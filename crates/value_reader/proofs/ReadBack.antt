@@ -1,19 +1,19 @@
 -- What is written for a value of any type is read as that value.
 use Rattle.std.proofs.Common.{◌≡◌, ◌∙◌, rules, List, [], ◌∷◌, ◌++◌, map, codes, Bool, true, IsTrue, Some, refl, sym, ap, subst, append-nil}
 use Rattle.std.specs.List.{AllByRecursion}
-use Rattle.ca_types.specs.declared.types.ValType.{ValType}
-use Rattle.ca_types.specs.declared.types.ValType.TheViews as types
-use Rattle.ca_types.specs.declared.value.Value.{Value, out-Value}
-use Rattle.ca_types.specs.declared.value.Value.TheOpen as V
-use Rattle.ca_types.specs.declared.value.Value.TheVariants as plain
-use Rattle.ca_types.specs.declared.value.Value.TheViews.{the_lemmas}
-use Rattle.ca_types.specs.declared.value.Value.TheFolds.{fold-roll-Value}
-use Rattle.ca_types.specs.declared.value.Value.TheViews as values
-use Rattle.ca_types.specs.TypeText.{listed}
-use Rattle.ca_types.specs.Fits.{Test, test_of, fits, is_record, each_passes}
-use Rattle.ca_types.specs.ValueText.{writer, value_text, by_each}
-use Rattle.ca_types.proofs.FitsEquations.{fits_of_tuple}
-use Rattle.ca_types.proofs.WriterEquations.{write_tuple}
+use Rattle.syntax_trees.specs.declared.types.ValType.{ValType}
+use Rattle.syntax_trees.specs.declared.types.ValType.TheViews as types
+use Rattle.syntax_trees.specs.declared.value.Value.{Value, out-Value}
+use Rattle.syntax_trees.specs.declared.value.Value.TheOpen as V
+use Rattle.syntax_trees.specs.declared.value.Value.TheVariants as plain
+use Rattle.syntax_trees.specs.declared.value.Value.TheViews.{the_lemmas}
+use Rattle.syntax_trees.specs.declared.value.Value.TheFolds.{fold-roll-Value}
+use Rattle.syntax_trees.specs.declared.value.Value.TheViews as values
+use Rattle.syntax_trees.specs.TypeText.{listed}
+use Rattle.syntax_trees.specs.Fits.{Test, test_of, fits, is_record, each_passes}
+use Rattle.syntax_trees.specs.ValueText.{writer, value_text, by_each}
+use Rattle.syntax_trees.proofs.FitsEquations.{fits_of_tuple}
+use Rattle.syntax_trees.proofs.WriterEquations.{write_tuple}
 use Rattle.value_reader.specs.Values.{read_value, arguments}
 use Rattle.value_reader.specs.Writable.{all_true, is_writable, is_sound, sound_step}
 use Rattle.value_reader.specs.Written.{bare, IsSpacedText, spaced_text, bare_text}

@@ -1,15 +1,15 @@
 -- What is read of a type is a value of the type, and sound.
 use Rattle.std.proofs.Common.{◌≡◌, ◌∙◌, ◌<◌, ◌^◌, rules, ℕ, List, [], ◌∷◌, map, Bool, true, Option, refl, ap, sym, arith}
 use Rattle.std.proofs.lemmas.Bool.{and_parts, leb-true}
-use Rattle.ca_types.specs.declared.types.ValType.{ValType, out-ValType}
-use Rattle.ca_types.specs.declared.types.ValType.TheOpen as F
-use Rattle.ca_types.specs.declared.types.ValType.TheFolds.{fold_out-ValType}
-use Rattle.ca_types.specs.declared.value.Value.{Value, roll-Value, out-Value}
-use Rattle.ca_types.specs.declared.value.Value.TheOpen as V
-use Rattle.ca_types.specs.declared.value.Value.TheViews.{the_lemmas}
-use Rattle.ca_types.specs.declared.value.Value.TheVariants as plain
-use Rattle.ca_types.specs.declared.value.Value.TheFolds.{fold_out-Value}
-use Rattle.ca_types.specs.Fits.{Test, test_of, fits_step, fits_case, fits_field, each_passes, is_u32}
+use Rattle.syntax_trees.specs.declared.types.ValType.{ValType, out-ValType}
+use Rattle.syntax_trees.specs.declared.types.ValType.TheOpen as F
+use Rattle.syntax_trees.specs.declared.types.ValType.TheFolds.{fold_out-ValType}
+use Rattle.syntax_trees.specs.declared.value.Value.{Value, roll-Value, out-Value}
+use Rattle.syntax_trees.specs.declared.value.Value.TheOpen as V
+use Rattle.syntax_trees.specs.declared.value.Value.TheViews.{the_lemmas}
+use Rattle.syntax_trees.specs.declared.value.Value.TheVariants as plain
+use Rattle.syntax_trees.specs.declared.value.Value.TheFolds.{fold_out-Value}
+use Rattle.syntax_trees.specs.Fits.{Test, test_of, fits_step, fits_case, fits_field, each_passes, is_u32}
 use Rattle.value_reader.specs.Writable.{all_true, sound_step, is_sound}
 use Rattle.value_reader.specs.Typed.{AreOfTypes}
 use Rattle.value_reader.specs.Laws.{ReadValuesFit, ReadArgumentsFit, SoundValuesAreSmall}

@@ -1,15 +1,15 @@
 -- What the readers are for the types that hold others.
 use Rattle.std.proofs.Common.{ℕ, ◌≡◌, ◌∙◌, List, [], ◌∷◌, map, ap, sym, refl, Option, Some, None}
-use Rattle.ca_types.specs.declared.types.ValType.{ValType}
-use Rattle.ca_types.specs.declared.types.Case.{Case}
-use Rattle.ca_types.specs.declared.types.Field.{Field}
-use Rattle.ca_types.specs.declared.types.ValType.TheViews as types
-use Rattle.ca_types.specs.declared.types.ValType.TheOpen as F
-use Rattle.ca_types.specs.declared.types.ValType.TheFolds.{fold-Case, fold-Field, fold-roll-ValType}
-use Rattle.ca_types.specs.declared.types.ValType.TheVariants.{rolls-Tuple, rolls-Record, rolls-Variant, rolls-Result, rolls-List, rolls-Option}
-use Rattle.ca_types.proofs.Folds.{held, fold_case, fold_field, fold_result}
-use Rattle.ca_types.proofs.Parts.{map_alike}
-use Rattle.ca_types.specs.ValueText.{Labelled}
+use Rattle.syntax_trees.specs.declared.types.ValType.{ValType}
+use Rattle.syntax_trees.specs.declared.types.Case.{Case}
+use Rattle.syntax_trees.specs.declared.types.Field.{Field}
+use Rattle.syntax_trees.specs.declared.types.ValType.TheViews as types
+use Rattle.syntax_trees.specs.declared.types.ValType.TheOpen as F
+use Rattle.syntax_trees.specs.declared.types.ValType.TheFolds.{fold-Case, fold-Field, fold-roll-ValType}
+use Rattle.syntax_trees.specs.declared.types.ValType.TheVariants.{rolls-Tuple, rolls-Record, rolls-Variant, rolls-Result, rolls-List, rolls-Option}
+use Rattle.syntax_trees.proofs.Folds.{held, fold_case, fold_field, fold_result}
+use Rattle.syntax_trees.proofs.Parts.{map_alike}
+use Rattle.syntax_trees.specs.ValueText.{Labelled}
 use Rattle.value_reader.specs.Values.{Reader, reader, reader_step, reader_case, reader_field, payload_reader, field_reader, case_reader, record_at, tuple_at, list_at, variant_at, option_at, result_at}
 
 abbrev Chosen : Type 0

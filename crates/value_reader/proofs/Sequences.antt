@@ -1,7 +1,7 @@
 -- Texts of values one after the other are read as these.
 use Rattle.std.proofs.Common.{◌≡◌, ◌∙◌, ◌⊎◌, inl, inr, ℕ, zero, suc, ◌≤◌, ◌+◌, List, [], ◌∷◌, ◌++◌, length, map, Option, Some, None, true, false, refl, sym, ap, append_assoc, append-nil, length-append, arith}
 use Rattle.std.specs.Option.{option_map, option_and_then}
-use Rattle.ca_types.specs.declared.value.Value.{Value}
+use Rattle.syntax_trees.specs.declared.value.Value.{Value}
 use Rattle.value_reader.specs.Tokens.{is_blank, ends_label, without_blanks, after_mark}
 use Rattle.value_reader.specs.Values.{Reader, separated, values_from, values_at, elements_from, elements_at, closed_or}
 use Rattle.value_reader.specs.Written.{AreBlanks}

@@ -2,8 +2,8 @@
 use Rattle.std.proofs.Common.{◌≡◌, ◌∙◌, inl, inr, ℕ, zero, suc, List, [], ◌∷◌, ◌++◌, length, map, codes, Option, Some, None, refl, sym, ap, subst, append_assoc, append-nil}
 use Rattle.std.specs.Option.{option_and_then}
 use Rattle.std.specs.List.{AllByRecursion}
-use Rattle.ca_types.specs.declared.types.ValType.{ValType}
-use Rattle.ca_types.specs.declared.value.Value.{Value}
+use Rattle.syntax_trees.specs.declared.types.ValType.{ValType}
+use Rattle.syntax_trees.specs.declared.value.Value.{Value}
 use Rattle.value_reader.specs.Tokens.{without_blanks, after_mark}
 use Rattle.value_reader.specs.Values.{reader, values_from, values_at, elements_from, elements_at, closed_or}
 use Rattle.value_reader.specs.Written.{AreBlanks, Place, bare, IsPlacedText, AreTexts, spaced_text, no_texts, one_text, more_texts}

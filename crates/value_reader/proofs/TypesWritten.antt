@@ -4,34 +4,34 @@ use Rattle.std.specs.List.{AllByRecursion, slice_get}
 use Rattle.std.specs.Option.{option_map}
 use Rattle.std.proofs.lemmas.Bool.{and_parts, cases_Bool, eqb-true, ltb-true}
 use Rattle.std.proofs.lemmas.Option.{slice_get-get_or}
-use Rattle.ca_types.specs.declared.types.ValType.{ValType, roll-ValType}
-use Rattle.ca_types.specs.declared.types.Case.{Case}
-use Rattle.ca_types.specs.declared.types.Field.{Field}
-use Rattle.ca_types.specs.declared.types.ValType.TheViews as types
-use Rattle.ca_types.specs.declared.types.ValType.TheViews.{roll-Case, roll-Field}
-use Rattle.ca_types.specs.declared.types.ValType.TheVariants as leaves
-use Rattle.ca_types.specs.declared.types.ValType.TheVariants.{rolls-Bool, rolls-S8, rolls-U8, rolls-S16, rolls-U16, rolls-S32, rolls-U32, rolls-S64, rolls-U64, rolls-Char, rolls-String, rolls-Record, rolls-Variant, rolls-List, rolls-Tuple, rolls-Flags, rolls-Enum, rolls-Option, rolls-Result}
-use Rattle.ca_types.specs.declared.types.ValType.TheOpen as F
-use Rattle.ca_types.specs.declared.types.ValType.TheFolds.{fold-roll-ValType, ind-ValType, map-ValType, map-Case, map-Field}
-use Rattle.ca_types.specs.declared.value.Value.{Value, roll-Value, out-Value}
-use Rattle.ca_types.specs.declared.value.Value.TheOpen as V
-use Rattle.ca_types.specs.declared.value.Value.TheViews as values
-use Rattle.ca_types.specs.declared.value.Value.TheVariants as plain
-use Rattle.ca_types.specs.NameText.{name_text}
-use Rattle.ca_types.specs.TypeText.{listed}
-use Rattle.ca_types.specs.Fits.{Test, test_of, fits_step, fits_case, fits_field, payload_test, payload_passes, case_passes, is_record, is_list, is_flags, is_enum, is_variant, is_either}
-use Rattle.ca_types.specs.ValueText.{Writer, Labelled, writer, writer_step, writer_case, writer_field, payload_writer, field_writer, case_writer, by_each, by_label, set_labels, payload_text, rest_text, tuple_text, list_text, flags_text, enum_text, chosen_text, variant_text, option_text, result_text, label_at}
-use Rattle.ca_types.specs.ValueText.{record_text}
-use Rattle.ca_types.proofs.Parts.{get_image}
-use Rattle.ca_types.proofs.FitsEquations.{fits_of_tuple, fits_of_record, fits_of_variant, fits_of_result, passes_case, passes_no_case}
-use Rattle.ca_types.proofs.WriterEquations.{writer_of_tuple, writer_of_record, writer_of_variant, writer_of_result, writes_case}
+use Rattle.syntax_trees.specs.declared.types.ValType.{ValType, roll-ValType}
+use Rattle.syntax_trees.specs.declared.types.Case.{Case}
+use Rattle.syntax_trees.specs.declared.types.Field.{Field}
+use Rattle.syntax_trees.specs.declared.types.ValType.TheViews as types
+use Rattle.syntax_trees.specs.declared.types.ValType.TheViews.{roll-Case, roll-Field}
+use Rattle.syntax_trees.specs.declared.types.ValType.TheVariants as leaves
+use Rattle.syntax_trees.specs.declared.types.ValType.TheVariants.{rolls-Bool, rolls-S8, rolls-U8, rolls-S16, rolls-U16, rolls-S32, rolls-U32, rolls-S64, rolls-U64, rolls-Char, rolls-String, rolls-Record, rolls-Variant, rolls-List, rolls-Tuple, rolls-Flags, rolls-Enum, rolls-Option, rolls-Result}
+use Rattle.syntax_trees.specs.declared.types.ValType.TheOpen as F
+use Rattle.syntax_trees.specs.declared.types.ValType.TheFolds.{fold-roll-ValType, ind-ValType, map-ValType, map-Case, map-Field}
+use Rattle.syntax_trees.specs.declared.value.Value.{Value, roll-Value, out-Value}
+use Rattle.syntax_trees.specs.declared.value.Value.TheOpen as V
+use Rattle.syntax_trees.specs.declared.value.Value.TheViews as values
+use Rattle.syntax_trees.specs.declared.value.Value.TheVariants as plain
+use Rattle.syntax_trees.specs.NameText.{name_text}
+use Rattle.syntax_trees.specs.TypeText.{listed}
+use Rattle.syntax_trees.specs.Fits.{Test, test_of, fits_step, fits_case, fits_field, payload_test, payload_passes, case_passes, is_record, is_list, is_flags, is_enum, is_variant, is_either}
+use Rattle.syntax_trees.specs.ValueText.{Writer, Labelled, writer, writer_step, writer_case, writer_field, payload_writer, field_writer, case_writer, by_each, by_label, set_labels, payload_text, rest_text, tuple_text, list_text, flags_text, enum_text, chosen_text, variant_text, option_text, result_text, label_at}
+use Rattle.syntax_trees.specs.ValueText.{record_text}
+use Rattle.syntax_trees.proofs.Parts.{get_image}
+use Rattle.syntax_trees.proofs.FitsEquations.{fits_of_tuple, fits_of_record, fits_of_variant, fits_of_result, passes_case, passes_no_case}
+use Rattle.syntax_trees.proofs.WriterEquations.{writer_of_tuple, writer_of_record, writer_of_variant, writer_of_result, writes_case}
 use Rattle.value_reader.specs.Writable.{all_true, true_if_some, is_label, are_labels, is_writable, may_be_silent, Told, told_step, told_case, told_field, is_sound}
 use Rattle.value_reader.specs.Written as written
 use Rattle.value_reader.specs.Written.{AreBlanks, bare, place_of_field, case_labels, IsText, IsPayload, no_payload}
 use Rattle.value_reader.proofs.Cases.{some_inj, cases_Option, none_is_no_some, branch_true, branch_false}
 use Rattle.value_reader.proofs.Telling.{all_get}
 use Rattle.value_reader.proofs.WritingLeaves.{by_layer, sound_layer, written_bool, written_s8, written_u8, written_s16, written_u16, written_s32, written_u32, written_s64, written_u64, written_char, written_string}
-use Rattle.ca_base.specs.Names.{is_among}
+use Rattle.syntax_trees.specs.Names.{is_among}
 use Rattle.value_reader.proofs.PlainLabels.{name_stands, labels_stand}
 use Rattle.value_reader.proofs.WritingLabels.{not_true, label_is_label, set_listed, set_shows, flags_of, place_found, label_at_place}
 use Rattle.value_reader.proofs.Writing.{Writes, WritesRest, listed_texts, fields_written, parts_written, elements_written, payload_written, nothing_written}

@@ -4,8 +4,8 @@ use Rattle.std.specs.Option.{option_and_then}
 use Rattle.std.specs.List.{AllByRecursion}
 use Rattle.std.proofs.lemmas.Bool.{eqb-true}
 use Rattle.std.proofs.lemmas.List.{nil_from_length}
-use Rattle.ca_types.specs.declared.types.ValType.{ValType}
-use Rattle.ca_types.specs.declared.value.Value.{Value}
+use Rattle.syntax_trees.specs.declared.types.ValType.{ValType}
+use Rattle.syntax_trees.specs.declared.value.Value.{Value}
 use Rattle.value_reader.specs.Tokens.{without_blanks, after_mark}
 use Rattle.value_reader.specs.Values.{Reader, reader, values_at, whole, read_value, whole_list, arguments}
 use Rattle.value_reader.specs.Written.{AreBlanks, bare, IsSpacedText, AreTexts, spaced_text, bare_text, IsWholeText, AreArguments}

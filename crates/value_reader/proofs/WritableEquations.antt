@@ -1,19 +1,19 @@
 -- What it says of a type with parts that a script can write its values, and that one of them is written as nothing.
 use Rattle.std.proofs.Common.{◌≡◌, ◌∙◌, ℕ, List, [], ◌∷◌, map, Bool, not, ◌&&◌, Option, Some, None, refl, sym, ap}
 use Rattle.std.specs.Option.{option_map}
-use Rattle.ca_base.specs.Names.{is_among}
-use Rattle.ca_types.specs.declared.types.ValType.{ValType}
-use Rattle.ca_types.specs.declared.types.Case.{Case}
-use Rattle.ca_types.specs.declared.types.Field.{Field}
-use Rattle.ca_types.specs.declared.types.ValType.TheViews as types
-use Rattle.ca_types.specs.declared.types.ValType.TheVariants as leaves
-use Rattle.ca_types.specs.declared.types.ValType.TheOpen as F
-use Rattle.ca_types.specs.declared.types.ValType.TheFolds.{fold-Case, fold-Field, fold-roll-ValType}
-use Rattle.ca_types.specs.declared.types.ValType.TheVariants.{rolls-Tuple, rolls-Record, rolls-Variant, rolls-Result, rolls-List, rolls-Option, rolls-Flags, rolls-Enum}
-use Rattle.ca_types.specs.Ends.{some_true}
-use Rattle.ca_types.proofs.Folds.{held, fold_case, fold_field, fold_result}
-use Rattle.ca_types.proofs.Parts.{map_alike}
-use Rattle.ca_types.specs.ValueText.{Labelled}
+use Rattle.syntax_trees.specs.Names.{is_among}
+use Rattle.syntax_trees.specs.declared.types.ValType.{ValType}
+use Rattle.syntax_trees.specs.declared.types.Case.{Case}
+use Rattle.syntax_trees.specs.declared.types.Field.{Field}
+use Rattle.syntax_trees.specs.declared.types.ValType.TheViews as types
+use Rattle.syntax_trees.specs.declared.types.ValType.TheVariants as leaves
+use Rattle.syntax_trees.specs.declared.types.ValType.TheOpen as F
+use Rattle.syntax_trees.specs.declared.types.ValType.TheFolds.{fold-Case, fold-Field, fold-roll-ValType}
+use Rattle.syntax_trees.specs.declared.types.ValType.TheVariants.{rolls-Tuple, rolls-Record, rolls-Variant, rolls-Result, rolls-List, rolls-Option, rolls-Flags, rolls-Enum}
+use Rattle.syntax_trees.specs.Ends.{some_true}
+use Rattle.syntax_trees.proofs.Folds.{held, fold_case, fold_field, fold_result}
+use Rattle.syntax_trees.proofs.Parts.{map_alike}
+use Rattle.syntax_trees.specs.ValueText.{Labelled}
 use Rattle.value_reader.specs.Writable.{all_true, true_if_some, is_label, are_labels, Told, told, told_step, told_case, told_field, payload_writable, is_silent, is_writable, may_be_silent}
 use Rattle.value_reader.specs.Written.{case_labels}
 

@@ -3,12 +3,12 @@ use Rattle.std.proofs.Common.{◌≡◌, ℕ, List, [], ◌∷◌, ◌++◌, map
 use Rattle.std.specs.List.{AllByRecursion, flat_map}
 use Rattle.std.specs.Option.{option_map}
 use Rattle.std.proofs.lemmas.Bool.{and_parts}
-use Rattle.ca_types.specs.declared.types.ValType.{ValType}
-use Rattle.ca_types.specs.declared.types.Field.{Field}
-use Rattle.ca_types.specs.declared.value.Value.{Value}
-use Rattle.ca_types.specs.TypeText.{listed}
-use Rattle.ca_types.specs.Fits.{test_of, payload_test, each_passes, all_pass, payload_passes}
-use Rattle.ca_types.specs.ValueText.{writer, payload_writer, field_writer, by_each, by_label, rest_text}
+use Rattle.syntax_trees.specs.declared.types.ValType.{ValType}
+use Rattle.syntax_trees.specs.declared.types.Field.{Field}
+use Rattle.syntax_trees.specs.declared.value.Value.{Value}
+use Rattle.syntax_trees.specs.TypeText.{listed}
+use Rattle.syntax_trees.specs.Fits.{test_of, payload_test, each_passes, all_pass, payload_passes}
+use Rattle.syntax_trees.specs.ValueText.{writer, payload_writer, field_writer, by_each, by_label, rest_text}
 use Rattle.value_reader.specs.Writable.{all_true, true_if_some, is_label, is_writable, is_sound}
 use Rattle.value_reader.specs.Written.{Place, bare, place_of_field, IsText, IsPayload, IsPlacedText, IsSpacedText, AreTexts, bare_text, labelled_text, spaced_text, no_texts, one_text, more_texts, no_payload, payload_text as payload_is}
 use Rattle.value_reader.proofs.PlainLabels.{name_stands}

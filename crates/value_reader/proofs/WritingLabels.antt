@@ -5,10 +5,10 @@ use Rattle.std.specs.Str.{bytes_eq}
 use Rattle.std.proofs.lemmas.Bool.{and_parts, cases_Bool}
 use Rattle.std.proofs.lemmas.Option.{slice_get_within}
 use Rattle.std.proofs.lemmas.Slice.Eq.{bytes_eq-Decides}
-use Rattle.ca_base.specs.Names.{is_among}
-use Rattle.ca_types.specs.NameText.{is_plain}
-use Rattle.ca_types.specs.TypeText.{listed}
-use Rattle.ca_types.specs.ValueText.{set_labels}
+use Rattle.syntax_trees.specs.Names.{is_among}
+use Rattle.syntax_trees.specs.NameText.{is_plain}
+use Rattle.syntax_trees.specs.TypeText.{listed}
+use Rattle.syntax_trees.specs.ValueText.{set_labels}
 use Rattle.value_reader.specs.Tokens.{is_blank, ends_label}
 use Rattle.value_reader.specs.Values.{place_of}
 use Rattle.value_reader.specs.Writable.{is_label, are_labels}

@@ -6,19 +6,19 @@ use Rattle.std.specs.Char.{encode_utf8, IsScalar}
 use Rattle.std.specs.Str.{IsUtf8, chars, all_scalars}
 use Rattle.std.proofs.lemmas.Bool.{and_parts, leb-true}
 use Rattle.std.proofs.lemmas.Str.{IsUtf8-from_is_utf8, encodes-chars, scalars-chars}
-use Rattle.ca_types.specs.declared.types.ValType.{ValType}
-use Rattle.ca_types.specs.declared.types.ValType.TheVariants as leaves
-use Rattle.ca_types.specs.declared.types.ValType.TheVariants.{rolls-Bool, rolls-S8, rolls-U8, rolls-S16, rolls-U16, rolls-S32, rolls-U32, rolls-S64, rolls-U64, rolls-Char, rolls-String}
-use Rattle.ca_types.specs.declared.types.ValType.TheOpen as F
-use Rattle.ca_types.specs.declared.types.ValType.TheFolds.{fold-roll-ValType}
-use Rattle.ca_types.specs.declared.value.Value.{Value, roll-Value, out-Value}
-use Rattle.ca_types.specs.declared.value.Value.TheOpen as V
-use Rattle.ca_types.specs.declared.value.Value.TheViews.{the_lemmas}
-use Rattle.ca_types.specs.declared.value.Value.TheVariants as plain
-use Rattle.ca_types.specs.declared.value.Value.TheFolds.{fold_out-Value, map-Value}
-use Rattle.ca_types.specs.CharText.{quoted, quoted_chars}
-use Rattle.ca_types.specs.Fits.{Test, test_of, fits_step, fits_case, fits_field, is_bool, is_s8, is_u8, is_s16, is_u16, is_s32, is_u32, is_s64, is_u64, is_char, is_string}
-use Rattle.ca_types.specs.ValueText.{Writer, Labelled, writer, writer_step, writer_case, writer_field, plain_text}
+use Rattle.syntax_trees.specs.declared.types.ValType.{ValType}
+use Rattle.syntax_trees.specs.declared.types.ValType.TheVariants as leaves
+use Rattle.syntax_trees.specs.declared.types.ValType.TheVariants.{rolls-Bool, rolls-S8, rolls-U8, rolls-S16, rolls-U16, rolls-S32, rolls-U32, rolls-S64, rolls-U64, rolls-Char, rolls-String}
+use Rattle.syntax_trees.specs.declared.types.ValType.TheOpen as F
+use Rattle.syntax_trees.specs.declared.types.ValType.TheFolds.{fold-roll-ValType}
+use Rattle.syntax_trees.specs.declared.value.Value.{Value, roll-Value, out-Value}
+use Rattle.syntax_trees.specs.declared.value.Value.TheOpen as V
+use Rattle.syntax_trees.specs.declared.value.Value.TheViews.{the_lemmas}
+use Rattle.syntax_trees.specs.declared.value.Value.TheVariants as plain
+use Rattle.syntax_trees.specs.declared.value.Value.TheFolds.{fold_out-Value, map-Value}
+use Rattle.syntax_trees.specs.CharText.{quoted, quoted_chars}
+use Rattle.syntax_trees.specs.Fits.{Test, test_of, fits_step, fits_case, fits_field, is_bool, is_s8, is_u8, is_s16, is_u16, is_s32, is_u32, is_s64, is_u64, is_char, is_string}
+use Rattle.syntax_trees.specs.ValueText.{Writer, Labelled, writer, writer_step, writer_case, writer_field, plain_text}
 use Rattle.value_reader.specs.Syntax.{IsNumber, IsSigned, IsInRange, IsLiteral}
 use Rattle.value_reader.specs.Writable.{is_within, sound_step, is_sound}
 use Rattle.value_reader.specs.Written.{IsText, true_text, false_text, s8_text, u8_text, s16_text, u16_text, s32_text, u32_text, s64_text, u64_text, char_text, string_text}

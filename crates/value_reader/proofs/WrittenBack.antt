@@ -11,7 +11,7 @@ use Rattle.std.proofs.lemmas.Bool.{and_parts, and_from, eqb-true, eqb-false, ltb
 use Rattle.std.proofs.lemmas.Bool.Decides.{nat_tests}
 use Rattle.std.proofs.lemmas.Fmt.{decimal_is_IsNumeral}
 use Rattle.std.proofs.lemmas.Str.{digit_value-digit_char, encode_ascii, scalars-chars, encodes-chars, chars-encodes, is_utf8-from_IsUtf8}
-use Rattle.ca_types.specs.CharText.{is_printable, is_marked, char_text, quoted_chars, quoted}
+use Rattle.syntax_trees.specs.CharText.{is_printable, is_marked, char_text, quoted_chars, quoted}
 use Rattle.value_reader.specs.Tokens.{is_digit, digit_value, unsigned_at, signed_at}
 use Rattle.value_reader.specs.Quoted.{escaped, is_scalar, literal_at, string_at, char_at}
 use Rattle.value_reader.specs.Syntax.{IsNumber, IsInRange, IsPiece, IsLiteral, BeginsWithout}

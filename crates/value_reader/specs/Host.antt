@@ -1,10 +1,10 @@
 -- Which types hold a handle or the end of a stream or a future, whose values no script can write (Component Model,
 -- Explainer.md, "Type Definitions").
 use Rattle.std.specs.Prelude.{Bool, true, false, ◌||◌, map, Option, Some, None}
-use Rattle.ca_types.specs.declared.types.ValType.{ValType, fold-ValType}
-use Rattle.ca_types.specs.declared.types.ValType.TheOpen.{ValType-F}
-use Rattle.ca_types.specs.declared.types.FuncType.{FuncType}
-use Rattle.ca_types.specs.Ends.{some_true, part_true, end_case, end_field}
+use Rattle.syntax_trees.specs.declared.types.ValType.{ValType, fold-ValType}
+use Rattle.syntax_trees.specs.declared.types.ValType.TheOpen.{ValType-F}
+use Rattle.syntax_trees.specs.declared.types.FuncType.{FuncType}
+use Rattle.syntax_trees.specs.Ends.{some_true, part_true, end_case, end_field}
 
 -- A type, where it is known of its parts whether they hold one.
 abbrev pub host_step : ValType-F Bool Bool Bool → Bool

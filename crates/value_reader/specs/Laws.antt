@@ -3,18 +3,18 @@ use Rattle.std.specs.Prelude.{◌≡◌, IsTrue, ◌≢◌, ◌≤◌, ◌<◌, 
 use Rattle.std.specs.Fmt.{decimal, signed_decimal}
 use Rattle.std.specs.Char.{IsScalar}
 use Rattle.std.specs.Str.{IsUtf8}
-use Rattle.ca_types.specs.CharText.{quoted, quoted_chars}
+use Rattle.syntax_trees.specs.CharText.{quoted, quoted_chars}
 use Rattle.value_reader.specs.Tokens.{is_digit, unsigned_at, signed_at}
 use Rattle.value_reader.specs.Quoted.{literal_at, string_at, char_at}
-use Rattle.ca_types.specs.declared.types.ValType.{ValType, out-ValType}
-use Rattle.ca_types.specs.declared.types.ValType.TheOpen.{ValType-F}
-use Rattle.ca_types.specs.declared.value.Value.{Value}
+use Rattle.syntax_trees.specs.declared.types.ValType.{ValType, out-ValType}
+use Rattle.syntax_trees.specs.declared.types.ValType.TheOpen.{ValType-F}
+use Rattle.syntax_trees.specs.declared.value.Value.{Value}
 use Rattle.value_reader.specs.Values.{reader, read_value, arguments}
-use Rattle.ca_types.specs.declared.types.ValType.TheViews as view
-use Rattle.ca_types.specs.declared.value.Value.TheViews as values
-use Rattle.ca_types.specs.declared.value.Value.TheVariants as plain
-use Rattle.ca_types.specs.Fits.{fits}
-use Rattle.ca_types.specs.ValueText.{value_text}
+use Rattle.syntax_trees.specs.declared.types.ValType.TheViews as view
+use Rattle.syntax_trees.specs.declared.value.Value.TheViews as values
+use Rattle.syntax_trees.specs.declared.value.Value.TheVariants as plain
+use Rattle.syntax_trees.specs.Fits.{fits}
+use Rattle.syntax_trees.specs.ValueText.{value_text}
 use Rattle.value_reader.specs.Writable.{is_writable, is_sound}
 use Rattle.value_reader.specs.Typed.{AreOfTypes}
 use Rattle.value_reader.specs.Written.{IsWholeText, AreArguments}

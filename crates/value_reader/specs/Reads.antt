@@ -1,9 +1,9 @@
 -- What is said of a call that reads from a text: what was found at the text's front, and what follows it there; or that
 -- nothing was.
 use Rattle.std.specs.Prelude.{◌≡◌, ℕ, Bool, true, false, List, Option, Some, None, Result, Ok, Err}
-use Rattle.ca_base.specs.declared.memory.MemoryOr.{MemoryOr}
-use Rattle.ca_base.specs.declared.memory.Memory.{Memory as Want}
-use Rattle.ca_base.specs.declared.memory.MemoryOr.TheVariants.{Memory, Fault}
+use Rattle.faults.specs.declared.memory.MemoryOr.{MemoryOr}
+use Rattle.faults.specs.declared.memory.Memory.{Memory as Want}
+use Rattle.faults.specs.declared.memory.MemoryOr.TheVariants.{Memory, Fault}
 use Rattle.value_reader.specs.declared.fault.NoText.{NoText}
 
 abbrev pub Found : Type 0 → Type 0

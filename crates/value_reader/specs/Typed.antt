@@ -1,8 +1,8 @@
 -- Values of types, one for each, as a call has them (Component Model, Explainer.md, "Type Definitions").
 use Rattle.std.specs.Prelude.{IsTrue, List, [], ◌∷◌}
-use Rattle.ca_types.specs.declared.types.ValType.{ValType}
-use Rattle.ca_types.specs.declared.value.Value.{Value}
-use Rattle.ca_types.specs.Fits.{fits}
+use Rattle.syntax_trees.specs.declared.types.ValType.{ValType}
+use Rattle.syntax_trees.specs.declared.value.Value.{Value}
+use Rattle.syntax_trees.specs.Fits.{fits}
 use Rattle.value_reader.specs.Writable.{is_sound}
 
 -- as many values as types, each of which fits its type and is sound

@@ -4,14 +4,14 @@
 -- width, each character is a Unicode scalar value, each text is UTF-8. Every value of the program is sound.
 use Rattle.std.specs.Prelude.{ℕ, ℤ, pos, negsuc, ◌==◌, ◌&&◌, Bool, true, false, not, nat_le, List, [], ◌∷◌, map, Option, Some, None}
 use Rattle.std.specs.Str.{is_utf8, all_scalars}
-use Rattle.ca_base.specs.Names.{is_among}
-use Rattle.ca_types.specs.declared.types.ValType.{ValType, fold-ValType}
-use Rattle.ca_types.specs.declared.types.ValType.TheOpen.{ValType-F, Field-F, Case-F}
-use Rattle.ca_types.specs.declared.value.Value.{Value, fold-Value}
-use Rattle.ca_types.specs.declared.value.Value.TheOpen.{Value-F}
-use Rattle.ca_types.specs.Ends.{some_true}
-use Rattle.ca_types.specs.NameText.{is_plain}
-use Rattle.ca_types.specs.ValueText.{Labelled}
+use Rattle.syntax_trees.specs.Names.{is_among}
+use Rattle.syntax_trees.specs.declared.types.ValType.{ValType, fold-ValType}
+use Rattle.syntax_trees.specs.declared.types.ValType.TheOpen.{ValType-F, Field-F, Case-F}
+use Rattle.syntax_trees.specs.declared.value.Value.{Value, fold-Value}
+use Rattle.syntax_trees.specs.declared.value.Value.TheOpen.{Value-F}
+use Rattle.syntax_trees.specs.Ends.{some_true}
+use Rattle.syntax_trees.specs.NameText.{is_plain}
+use Rattle.syntax_trees.specs.ValueText.{Labelled}
 use Rattle.value_reader.specs.Tokens.{ends_label}
 
 -- all of these

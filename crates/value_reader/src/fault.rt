@@ -2,14 +2,14 @@
 
 ghost use Rattle.std.specs.Prelude.{◌≡◌};
 
-use ca_base::MemoryOr;
+use faults::MemoryOr;
 
 /// The text is not one of the type that is asked for.
 #[derive(Clone, Copy)]
 pub struct NoText;
 
 impl From<NoText> for MemoryOr<NoText> {
-    ghost use Rattle.ca_base.specs.declared.memory.MemoryOr.TheVariants.{Fault};
+    ghost use Rattle.faults.specs.declared.memory.MemoryOr.TheVariants.{Fault};
 
     ghost from_gives = { λ fault e. e ≡ Fault fault };
 

@@ -3,7 +3,7 @@
 ghost use Rattle.std.specs.Prelude.{◌≡◌};
 ghost use Rattle.value_reader.specs.Host as host;
 
-use ca_types::{FuncType, ValType};
+use syntax_trees::{FuncType, ValType};
 
 /// Whether values of this type hold a handle, or the end of a stream or a future.
 pub fn has_host_type(val_type: &ValType) -> bool

@@ -7,8 +7,9 @@ ghost use Rattle.value_reader.specs.Values as values;
 
 use crate::fault::NoText;
 use crate::text::Text;
-use ca_base::{MemoryOr, Name, Seq};
+use faults::MemoryOr;
 use std::alloc::Global;
+use syntax_trees::{Name, Seq};
 
 /// Whether two labels are the same.
 pub fn is_label(name: &Name, label: &[u8]) -> bool

@@ -1,14 +1,14 @@
 //! Numbers.
 
 ghost use Rattle.std.specs.Prelude.{◌≡◌, ◌<◌, ◌≤◌, ◌^◌, ◌≤ℤ◌, pos, negsuc, IfOk};
-ghost use Rattle.ca_types.specs.declared.value.Value.TheVariants as value;
+ghost use Rattle.syntax_trees.specs.declared.value.Value.TheVariants as value;
 ghost use Rattle.value_reader.specs.Tokens as tokens;
 ghost use Rattle.value_reader.specs.Reads.{Reads};
 ghost use Rattle.value_reader.specs.Values as values;
 
 use crate::fault::NoText;
 use crate::text::{Text, digit_value};
-use ca_types::Value;
+use syntax_trees::Value;
 
 /// The number of these digits in a base, where it is not above this one.
 #[tactic(auto, using(crate::proofs::Digits::grows, crate::proofs::Digits::step))]

@@ -9,8 +9,9 @@ ghost use Rattle.value_reader.specs.Quoted as quoted;
 use crate::fault::NoText;
 use crate::numbers::number_up_to;
 use crate::text::Text;
-use ca_base::{Bytes, Memory, MemoryOr, Name, Seq};
+use faults::{Memory, MemoryOr};
 use std::alloc::Global;
+use syntax_trees::{Bytes, Name, Seq};
 
 /// The character for which a letter stands behind a backslash.
 fn escaped(letter: u8) -> Option<u8>

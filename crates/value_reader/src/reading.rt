@@ -7,9 +7,9 @@ ghost use Rattle.value_reader.specs.Values as values;
 use crate::fault::NoText;
 use crate::text::Text;
 use crate::values::{skip_separator, value_at};
-use ca_base::{Memory, MemoryOr, Seq};
-use ca_types::{Param, ValType, Value, Values};
+use faults::{Memory, MemoryOr};
 use std::alloc::Global;
+use syntax_trees::{Param, Seq, ValType, Value, Values};
 
 /// What was read, or none where the text is not one of those that are asked for.
 fn if_text<T>(read: Result<T, MemoryOr<NoText>>) -> Result<Option<T>, Memory>

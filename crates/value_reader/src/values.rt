@@ -11,9 +11,9 @@ use crate::labels::{flags_at, is_label, place_of};
 use crate::numbers::{s8_at, s16_at, s32_at, s64_at, u8_at, u16_at, u32_at, u64_at};
 use crate::quoted::{char_at, string_at};
 use crate::text::Text;
-use ca_base::{Memory, MemoryOr, Name, Seq};
-use ca_types::{Boxed, Case, Field, Shared, ValType, Value, Values};
+use faults::{Memory, MemoryOr};
 use std::alloc::Global;
+use syntax_trees::{Boxed, Case, Field, Name, Seq, Shared, ValType, Value, Values};
 
 /// Reads a truth value.
 fn bool_at(text: &mut Text<'_>) -> Result<Value, NoText>

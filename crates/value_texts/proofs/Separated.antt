@@ -2,7 +2,7 @@
 use Rattle.std.proofs.Common.{◌≡◌, ◌∙◌, refl, sym, ap, append_assoc, Bool, true, false, ◌++◌, List}
 use Rattle.std.specs.Prelude.{codes}
 use Rattle.std.specs.List.{flat_map}
-use Rattle.ca_types.specs.TypeText.{Chars, listed}
+use Rattle.syntax_trees.specs.TypeText.{Chars, listed}
 
 -- texts behind others, each after a comma and a space
 abbrev pub following : List Chars → Chars

@@ -1,16 +1,16 @@
 -- What texts are for the types that hold others.
 use Rattle.std.proofs.Common.{◌≡◌, ◌∙◌, List, ◌++◌, map, ap, sym, refl, Option, Some, None}
-use Rattle.ca_types.specs.declared.types.ValType.{ValType}
-use Rattle.ca_types.specs.declared.types.Case.{Case}
-use Rattle.ca_types.specs.declared.types.Field.{Field}
-use Rattle.ca_types.specs.declared.types.ValType.TheViews as types
-use Rattle.ca_types.specs.declared.types.ValType.TheOpen as F
-use Rattle.ca_types.specs.declared.types.ValType.TheFolds.{fold-Case, fold-Field, fold-roll-ValType}
-use Rattle.ca_types.specs.declared.types.ValType.TheVariants.{rolls-Tuple, rolls-Record, rolls-Variant, rolls-Result, rolls-Stream, rolls-Future, rolls-List, rolls-Option}
-use Rattle.ca_types.proofs.Folds.{held, fold_case, fold_field, fold_result, fold_stream, fold_future}
-use Rattle.ca_types.proofs.Parts.{map_alike}
+use Rattle.syntax_trees.specs.declared.types.ValType.{ValType}
+use Rattle.syntax_trees.specs.declared.types.Case.{Case}
+use Rattle.syntax_trees.specs.declared.types.Field.{Field}
+use Rattle.syntax_trees.specs.declared.types.ValType.TheViews as types
+use Rattle.syntax_trees.specs.declared.types.ValType.TheOpen as F
+use Rattle.syntax_trees.specs.declared.types.ValType.TheFolds.{fold-Case, fold-Field, fold-roll-ValType}
+use Rattle.syntax_trees.specs.declared.types.ValType.TheVariants.{rolls-Tuple, rolls-Record, rolls-Variant, rolls-Result, rolls-Stream, rolls-Future, rolls-List, rolls-Option}
+use Rattle.syntax_trees.proofs.Folds.{held, fold_case, fold_field, fold_result, fold_stream, fold_future}
+use Rattle.syntax_trees.proofs.Parts.{map_alike}
 use Rattle.std.specs.Prelude.{codes}
-use Rattle.ca_types.specs.TypeText.{Chars, type_text, text_step, text_case, text_field, field_text, case_text, held_text, listed, labelled, part_text, ended}
+use Rattle.syntax_trees.specs.TypeText.{Chars, type_text, text_step, text_case, text_field, field_text, case_text, held_text, listed, labelled, part_text, ended}
 
 pub text_of_tuple : (parts : List ValType) → type_text (types.Tuple parts) ≡ codes "tuple<" ++ listed (map type_text parts) ++ codes ">"
 text_of_tuple parts =

@@ -1,7 +1,7 @@
 -- The texts of types without parts, after the text format of interfaces (Component Model, WIT.md, "Types").
 use Rattle.std.specs.Prelude.{[], ◌++◌, codes}
-use Rattle.ca_types.specs.declared.types.ValType.TheOpen.{ValType-F}
-use Rattle.ca_types.specs.TypeText.{Chars, listed_labels, resource_text}
+use Rattle.syntax_trees.specs.declared.types.ValType.TheOpen.{ValType-F}
+use Rattle.syntax_trees.specs.TypeText.{Chars, listed_labels, resource_text}
 
 -- a type that has neither parts nor labels; another type has no such name
 abbrev pub primitive_text : {A B C : Type 0} → ValType-F A B C → Chars

@@ -4,9 +4,10 @@ ghost use Rattle.std.specs.Prelude.{◌≡◌, [], ◌∷◌, ◌++◌, OnOk};
 ghost use Rattle.std.specs.List.{flat_map};
 ghost use Rattle.std.specs.Str.{chars};
 ghost use Rattle.std.specs.Char.Escape.{escape_unicode};
-ghost use Rattle.ca_types.specs.CharText.{char_text, quoted, quoted_chars};
+ghost use Rattle.syntax_trees.specs.CharText.{char_text, quoted, quoted_chars};
 
-use ca_base::{Memory, Name};
+use faults::Memory;
+use syntax_trees::Name;
 
 /// Appends a character's code, as `\u{e9}`. It fails for want of memory alone.
 pub(crate) fn push_code(c: char, to: &mut Vec<u8>) -> Result<(), Memory>

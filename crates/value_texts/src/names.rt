@@ -1,11 +1,12 @@
 //! The text of a name.
 
 ghost use Rattle.std.specs.Prelude.{◌≡◌, ◌++◌, OnOk, IfOk};
-ghost use Rattle.ca_types.specs.NameText.{char_text, name_text};
+ghost use Rattle.syntax_trees.specs.NameText.{char_text, name_text};
 
 use crate::characters::push_code;
-use ca_base::{Bytes, Memory, Name, Seq};
+use faults::Memory;
 use std::alloc::Global;
+use syntax_trees::{Bytes, Name, Seq};
 
 /// Appends a character: as it is where it is a visible one of ASCII but the backslash, and else its code.
 fn push_char(c: char, text: &mut Vec<u8>) -> Result<(), Memory>

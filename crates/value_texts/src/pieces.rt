@@ -4,8 +4,10 @@ ghost use Rattle.std.specs.Prelude.{◌≡◌, ◌++◌, OnOk};
 ghost use Rattle.std.specs.Fmt.{decimal};
 
 use crate::names::push_name;
-use ca_base::{Memory, Name, Text};
+use crate::text::Text;
+use faults::Memory;
 use std::alloc::Global;
+use syntax_trees::Name;
 
 /// Appends a number in decimal digits. It fails for want of memory alone.
 pub fn push_number(alloc: Global, number: u32, to: &mut Vec<u8>) -> Result<(), Memory>
@@ -28,7 +30,7 @@ pub fn push_word(word: &[u8], to: &mut Vec<u8>) -> Result<(), Memory>
 pub struct Labels;
 
 impl Text for Labels {
-    ghost use Rattle.ca_types.specs.NameText.{name_text};
+    ghost use Rattle.syntax_trees.specs.NameText.{name_text};
 
     type Item = Name;
 

@@ -2,14 +2,14 @@
 
 ghost use Rattle.std.specs.Prelude.{◌≡◌, ◌++◌, OnOk};
 ghost use Rattle.std.specs.Fmt.{decimal, signed_decimal};
-ghost use Rattle.ca_types.specs.declared.value.Value.{out-Value};
-ghost use Rattle.ca_types.specs.ValueText.{bool_text, handle_text, plain_text};
+ghost use Rattle.syntax_trees.specs.declared.value.Value.{out-Value};
+ghost use Rattle.syntax_trees.specs.ValueText.{bool_text, handle_text, plain_text};
 
 use crate::characters::{push_quoted, push_quoted_char};
 use crate::pieces::{push_number, push_word};
-use ca_base::Memory;
-use ca_types::{Handle, Value};
+use faults::Memory;
 use std::alloc::Global;
+use syntax_trees::{Handle, Value};
 
 /// Appends a truth value.
 fn push_bool(value: bool, to: &mut Vec<u8>) -> Result<(), Memory>

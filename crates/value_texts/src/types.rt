@@ -1,15 +1,16 @@
 //! The texts of types (after Component Model, WIT.md, "Types").
 
 ghost use Rattle.std.specs.Prelude.{◌≡◌, ◌++◌, OnOk, IfOk, codes, map};
-ghost use Rattle.ca_types.specs.declared.types.ValType.{out-ValType};
+ghost use Rattle.syntax_trees.specs.declared.types.ValType.{out-ValType};
 ghost use Rattle.value_texts.specs.LeafText.{primitive_text, leaf_text};
-ghost use Rattle.ca_types.specs.TypeText.{type_text, field_text, case_text, listed, listed_labels, held_text, part_text, ended, resource_text};
+ghost use Rattle.syntax_trees.specs.TypeText.{type_text, field_text, case_text, listed, listed_labels, held_text, part_text, ended, resource_text};
 
 use crate::names::push_name;
 use crate::pieces::{Labels, push_number, push_word};
-use ca_base::{Bytes, Memory, Name, Seq, push_separated};
-use ca_types::{Case, Field, Shared, ValType};
+use crate::text::push_separated;
+use faults::Memory;
 use std::alloc::Global;
+use syntax_trees::{Bytes, Case, Field, Name, Seq, Shared, ValType};
 
 /// How long a text of a type may be before another type is appended, in bytes.
 const TEXT_LIMIT: usize = 268_435_456;

@@ -1,16 +1,16 @@
 //! The texts of values.
 
 ghost use Rattle.std.specs.Prelude.{◌≡◌, ◌++◌, OnOk, IfOk, codes, map};
-ghost use Rattle.ca_types.specs.NameText.{name_text};
-ghost use Rattle.ca_types.specs.TypeText.{listed};
-ghost use Rattle.ca_types.specs.ValueText.{value_text, writer, payload_writer, field_writer, by_label, by_each, set_labels, payload_text, rest_text};
+ghost use Rattle.syntax_trees.specs.NameText.{name_text};
+ghost use Rattle.syntax_trees.specs.TypeText.{listed};
+ghost use Rattle.syntax_trees.specs.ValueText.{value_text, writer, payload_writer, field_writer, by_label, by_each, set_labels, payload_text, rest_text};
 
 use crate::names::push_name;
 use crate::pieces::push_word;
 use crate::plain::push_plain;
-use ca_base::{Bytes, Memory, Name, Seq};
-use ca_types::{Boxed, Field, Shared, ValType, Value, item_at};
+use faults::Memory;
 use std::alloc::Global;
+use syntax_trees::{Boxed, Bytes, Field, Name, Seq, Shared, ValType, Value, item_at};
 
 /// Appends a value behind its field's label.
 #[cycle(value_text)]
@@ -153,7 +153,7 @@ fn push_flags(labels: &[Name], flags: &[bool], to: &mut Vec<u8>) -> Result<(), M
 
 /// Appends a value of a type.
 #[cycle(value_text)]
-#[tactic(auto, using(ca_types::proofs::WriterEquations::writer_of_tuple, ca_types::proofs::WriterEquations::writer_of_record, ca_types::proofs::WriterEquations::writer_of_variant, ca_types::proofs::WriterEquations::writer_of_result, ca_types::proofs::WriterEquations::writes_case, ca_types::proofs::WriterEquations::writes_no_case, ca_types::proofs::WriterEquations::writes_label, ca_types::proofs::WriterEquations::writes_no_label))]
+#[tactic(auto, using(syntax_trees::proofs::WriterEquations::writer_of_tuple, syntax_trees::proofs::WriterEquations::writer_of_record, syntax_trees::proofs::WriterEquations::writer_of_variant, syntax_trees::proofs::WriterEquations::writer_of_result, syntax_trees::proofs::WriterEquations::writes_case, syntax_trees::proofs::WriterEquations::writes_no_case, syntax_trees::proofs::WriterEquations::writes_label, syntax_trees::proofs::WriterEquations::writes_no_label))]
 fn push_value(
     alloc: Global,
     value: &Value,

@@ -19,10 +19,10 @@ mod place;
 mod refusal;
 mod sets;
 
-use ca_base::Seq;
 pub use members::Members;
 pub use refusal::SetRefusal;
 pub use sets::Sets;
+use syntax_trees::Seq;
 
 /// A list of waitables.
 pub type Nums = Seq<u32>;

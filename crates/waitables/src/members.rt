@@ -4,7 +4,7 @@ ghost use Rattle.std.specs.Prelude.{◌≡◌, ◌↔◌, [], length, IfOk, IsTr
 ghost use Rattle.std.specs.BTreeMap.{values};
 
 use crate::Nums;
-use ca_base::Memory;
+use faults::Memory;
 use std::alloc::Global;
 use std::collections::BTreeMap;
 use std::marker::Model;

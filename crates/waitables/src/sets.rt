@@ -12,7 +12,7 @@ use crate::Nums;
 use crate::members::Members;
 use crate::place::Place;
 use crate::refusal::SetRefusal;
-use ca_base::Memory;
+use faults::Memory;
 use std::alloc::Global;
 use std::collections::BTreeMap;
 use std::marker::Model;

@@ -4,9 +4,9 @@ use Rattle.std.proofs.Math.Nat.{eq-or-lt_of_le}
 use Rattle.std.proofs.Math.ListN.{length-set}
 use Rattle.std.proofs.lemmas.Option.{slice_get_past, slice_get_read}
 use Rattle.std.specs.List.{slice_get}
-use Rattle.wasm_module.specs.declared.instr.Op.{Op}
-use Rattle.wasm_module.specs.Expr.{Expr, End, Plain, Block, Loop, If, IfElse, Piece, flat, first_op, behind_op, behind_ops, left_at}
-use Rattle.wasm_module.proofs.Walking.{left_more, left_none, op_there}
+use Rattle.syntax_trees.specs.declared.instr.Op.{Op}
+use Rattle.syntax_trees.specs.Expr.{Expr, End, Plain, Block, Loop, If, IfElse, Piece, flat, first_op, behind_op, behind_ops, left_at}
+use Rattle.syntax_trees.proofs.Walking.{left_more, left_none, op_there}
 use Rattle.wasm_code.specs.declared.jumps.Jump.{Jump}
 use Rattle.wasm_code.specs.Jumps.{Opens, OpensIf, IsJump, AreJumps, behind_block, second_part}
 use Rattle.wasm_code.specs.Ends.{ends_before, jump_of}

@@ -2,8 +2,8 @@
 -- jump of the block, loop or `if` that it ends, the innermost one first.
 use Rattle.std.specs.Prelude.{ℕ, ◌+◌, List, [], ◌∷◌, drop, Option, None}
 use Rattle.std.specs.List.{slice_get}
-use Rattle.wasm_module.specs.declared.instr.Op.{Op}
-use Rattle.wasm_module.specs.declared.instr.Op.TheVariants.{Plain, OpenBlock, OpenLoop, OpenIf, Else, End}
+use Rattle.syntax_trees.specs.declared.instr.Op.{Op}
+use Rattle.syntax_trees.specs.declared.instr.Op.TheVariants.{Plain, OpenBlock, OpenLoop, OpenIf, Else, End}
 use Rattle.wasm_code.specs.declared.jumps.Jump.{Jump}
 
 -- The innermost end is that of an `if` whose second part begins at a place.

@@ -2,9 +2,9 @@
 -- the part there, of what stands behind that part, and so on.
 use Rattle.std.specs.Prelude.{◌≡◌, ℕ, false, List, ◌∷◌, Option, Some}
 use Rattle.std.specs.List.{slice_get}
-use Rattle.wasm_module.specs.declared.instr.Op.{Op}
-use Rattle.wasm_module.specs.declared.instr.Op.TheVariants.{OpenBlock, OpenLoop, OpenIf}
-use Rattle.wasm_module.specs.Expr.{Expr, End, Block, Loop, If, IfElse, Piece, first_op, left_at}
+use Rattle.syntax_trees.specs.declared.instr.Op.{Op}
+use Rattle.syntax_trees.specs.declared.instr.Op.TheVariants.{OpenBlock, OpenLoop, OpenIf}
+use Rattle.syntax_trees.specs.Expr.{Expr, End, Block, Loop, If, IfElse, Piece, first_op, left_at}
 use Rattle.wasm_code.specs.declared.jumps.Jump.{Jump}
 
 -- what is left behind the end of the block, loop or `if` that begins there

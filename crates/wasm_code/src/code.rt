@@ -2,14 +2,14 @@
 
 ghost use Rattle.std.specs.Prelude.{◌≡◌, [], IfOk};
 ghost use Rattle.std.specs.Option.{option_copied};
-ghost use Rattle.wasm_module.specs.Expr.{first_op, left_at, op_count};
+ghost use Rattle.syntax_trees.specs.Expr.{first_op, left_at, op_count};
 ghost use Rattle.wasm_code.specs.Jumps.{behind_block, second_part, Opens, OpensIf};
 
 use crate::copying::copy_body;
 use crate::jumps::{Jump, jumps_of};
 use std::alloc::{AllocError, Global};
 use std::marker::Model;
-use wasm_module::{Body, Op};
+use syntax_trees::{Body, Op};
 
 /// The code of a function (Core 2.0, section 2.4.9), which contracts see as its expression.
 #[derive(Drop)]
@@ -19,7 +19,7 @@ pub struct Code {
 }
 
 impl Model for Code {
-    ghost use Rattle.wasm_module.specs.Expr.{Expr, expr_code};
+    ghost use Rattle.syntax_trees.specs.Expr.{Expr, expr_code};
     ghost use Rattle.wasm_code.specs.Jumps.{AreJumps};
 
     ghost Value = { Expr };

@@ -2,9 +2,9 @@
 
 ghost use Rattle.std.specs.Prelude.{◌≡◌, IfOk};
 
-use ca_base::Seq;
 use std::alloc::{AllocError, Global};
-use wasm_module::{Body, FuncType, Instr, Op};
+use syntax_trees::module_types::FuncType;
+use syntax_trees::{Body, Instr, Op, Seq};
 
 /// A copy of a body.
 pub(crate) fn copy_body(alloc: Global, body: &Body) -> Result<Body, AllocError>

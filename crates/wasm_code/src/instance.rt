@@ -3,9 +3,9 @@
 ghost use Rattle.std.specs.Prelude.{◌≡◌};
 ghost use Rattle.wasm_code.specs.Sorts.{address_in};
 
-use ca_base::Seq;
 use std::rc::Rc;
-use wasm_module::{FuncType, GlobalType};
+use syntax_trees::module_types::FuncType;
+use syntax_trees::{GlobalType, Seq};
 
 /// A table (Core 2.0, section 4.2.7).
 #[derive(Drop)]

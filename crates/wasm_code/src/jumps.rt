@@ -5,7 +5,7 @@ ghost use Rattle.wasm_code.specs.Ends.{ends_before, jump_of, noted};
 ghost use Rattle.wasm_code.specs.Jumps.{AreJumps};
 
 use std::alloc::{AllocError, Global};
-use wasm_module::{Body, Op};
+use syntax_trees::{Body, Op};
 
 /// The places at which the code of a block, a loop or an `if` goes on.
 #[derive(Clone, Copy)]

@@ -2,7 +2,7 @@
 
 ghost use Rattle.std.specs.Prelude.{◌≡◌, ◌<◌, ◌∷◌, reverse, IfOk, vec_len, vec_capacity};
 
-use ca_base::Memory;
+use faults::Memory;
 
 /// Takes the last operand. There is room for another one.
 #[inline]

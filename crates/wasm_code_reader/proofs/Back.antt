@@ -1,12 +1,12 @@
 -- Flat code comes back from the expression that it stands for.
 use Rattle.std.proofs.Common.{◌≡◌, Bool, true, false, List, [], ◌∷◌, ◌++◌, refl, ap, ◌∙◌, sym, subst, Option, Some, None}
-use Rattle.wasm_module.specs.declared.instr.Op.{Op}
-use Rattle.wasm_module.specs.declared.instr.Op.TheVariants.{Plain as PlainOp, OpenBlock, OpenLoop, OpenIf, Else, End as EndOp}
+use Rattle.syntax_trees.specs.declared.instr.Op.{Op}
+use Rattle.syntax_trees.specs.declared.instr.Op.TheVariants.{Plain as PlainOp, OpenBlock, OpenLoop, OpenIf, Else, End as EndOp}
 use Rattle.wasm_code_reader.specs.declared.parts.Part.{Part}
 use Rattle.wasm_code_reader.specs.declared.parts.Part.TheVariants.{First, Other}
-use Rattle.wasm_module.specs.declared.instr.Instr.{Instr}
-use Rattle.wasm_module.specs.declared.instr.BlockType.{BlockType}
-use Rattle.wasm_module.specs.Expr.{Expr, Piece, before, op_on, flat_all, flat, unflat, tree_of}
+use Rattle.syntax_trees.specs.declared.instr.Instr.{Instr}
+use Rattle.syntax_trees.specs.declared.instr.BlockType.{BlockType}
+use Rattle.syntax_trees.specs.Expr.{Expr, Piece, before, op_on, flat_all, flat, unflat, tree_of}
 
 -- the open parts behind a piece
 abbrev after : Bool → List Part → Option (List Part)

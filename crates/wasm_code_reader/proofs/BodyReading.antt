@@ -6,18 +6,18 @@ use Rattle.std.proofs.lemmas.Bool.Decides.{eqb_tells}
 use Rattle.std.proofs.lemmas.List.{reverse-append}
 use Rattle.ca_base.specs.Span.{Span}
 use Rattle.ca_base.specs.declared.refusal.Refusal.{Refusal}
-use Rattle.ca_base.specs.declared.memory.MemoryOr.{MemoryOr}
-use Rattle.ca_base.specs.declared.memory.MemoryOr.TheVariants.{Memory, Fault}
+use Rattle.faults.specs.declared.memory.MemoryOr.{MemoryOr}
+use Rattle.faults.specs.declared.memory.MemoryOr.TheVariants.{Memory, Fault}
 use Rattle.ca_base.specs.Grammar.{Grammar, MayRead, read, first_byte, and_then, Give, Choose, ◌>>=◌}
 use Rattle.wasm_code_reader.specs.declared.fault.ModuleWhy.{ModuleWhy}
-use Rattle.wasm_module.specs.declared.instr.Op.{Op}
-use Rattle.wasm_module.specs.declared.instr.Op.TheVariants.{Plain as PlainOp, OpenBlock, OpenLoop, OpenIf, Else, End as EndOp}
+use Rattle.syntax_trees.specs.declared.instr.Op.{Op}
+use Rattle.syntax_trees.specs.declared.instr.Op.TheVariants.{Plain as PlainOp, OpenBlock, OpenLoop, OpenIf, Else, End as EndOp}
 use Rattle.wasm_code_reader.specs.declared.parts.Part.{Part}
 use Rattle.wasm_code_reader.specs.declared.bodies.PlacedBody.{PlacedBody}
 use Rattle.wasm_code_reader.specs.declared.parts.Part.TheVariants.{First, Other}
-use Rattle.wasm_module.specs.declared.instr.Instr.{Instr}
-use Rattle.wasm_module.specs.declared.instr.BlockType.{BlockType}
-use Rattle.wasm_module.specs.Expr.{End, Block, Loop, If, IfElse, Piece, before, op_on, tree_of, unflat}
+use Rattle.syntax_trees.specs.declared.instr.Instr.{Instr}
+use Rattle.syntax_trees.specs.declared.instr.BlockType.{BlockType}
+use Rattle.syntax_trees.specs.Expr.{End, Block, Loop, If, IfElse, Piece, before, op_on, tree_of, unflat}
 use Rattle.wasm_code_reader.specs.Parts.{Leaves, may_else}
 use Rattle.wasm_code_reader.specs.Instrs.{instr, block_type}
 use Rattle.wasm_code_reader.specs.Bodies.{expr, body}

@@ -6,7 +6,7 @@ use Rattle.std.proofs.lemmas.Bool.Decides.{eqb_tells}
 use Rattle.ca_base.specs.Span.{Span}
 use Rattle.ca_base.specs.declared.refusal.Refusal.{Refusal}
 use Rattle.ca_base.specs.Grammar.{read, first_byte, and_then}
-use Rattle.wasm_module.specs.declared.instr.ConstInstr.{ConstInstr}
+use Rattle.syntax_trees.specs.declared.instr.ConstInstr.{ConstInstr}
 use Rattle.wasm_code_reader.specs.declared.fault.ModuleWhy.{ModuleWhy}
 use Rattle.wasm_code_reader.specs.declared.fault.ModuleWhy.TheVariants.{Unsupported}
 use Rattle.wasm_code_reader.specs.declared.consts.PlacedConst.{PlacedConst}

@@ -5,9 +5,9 @@ use Rattle.ca_base.specs.Span.{Span}
 use Rattle.ca_base.specs.declared.refusal.Refusal.{Refusal}
 use Rattle.ca_base.specs.Grammar.{read, first_byte, and_then}
 use Rattle.wasm_code_reader.specs.declared.fault.ModuleWhy.{ModuleWhy}
-use Rattle.wasm_module.specs.declared.instr.Instr.{Instr}
-use Rattle.wasm_module.specs.declared.instr.BlockType.{BlockType}
-use Rattle.wasm_module.specs.Expr.{Expr, End, Plain, Block, Loop, If, IfElse, Piece}
+use Rattle.syntax_trees.specs.declared.instr.Instr.{Instr}
+use Rattle.syntax_trees.specs.declared.instr.BlockType.{BlockType}
+use Rattle.syntax_trees.specs.Expr.{Expr, End, Plain, Block, Loop, If, IfElse, Piece}
 use Rattle.wasm_code_reader.specs.Instrs.{instr, block_type}
 use Rattle.wasm_code_reader.specs.Bodies.{expr}
 use Rattle.ca_base.proofs.Left.{reads_left, byte_left}

@@ -9,12 +9,12 @@ use Rattle.ca_base.specs.Items.{u32}
 use Rattle.ca_base.proofs.Times.{preceded}
 use Rattle.wasm_code_reader.specs.declared.fault.ModuleWhy.{ModuleWhy}
 use Rattle.wasm_code_reader.specs.declared.fault.ModuleWhy.TheVariants.{Limit}
-use Rattle.wasm_module.specs.declared.types.ValType.{ValType}
-use Rattle.wasm_module.specs.declared.types.Locals.{Locals}
+use Rattle.syntax_trees.specs.declared.module_types.ValType.{ValType}
+use Rattle.syntax_trees.specs.declared.module_types.Locals.{Locals}
 use Rattle.wasm_code_reader.specs.Reasons.{numbers}
 use Rattle.wasm_code_reader.specs.Types.{val_type}
 use Rattle.wasm_code_reader.specs.Bodies.{locals}
-use Rattle.wasm_module.specs.Locals.{local_count}
+use Rattle.syntax_trees.specs.Locals.{local_count}
 
 one_more : (groups : List Locals) (g : Locals) (r : Result (List Locals × Span ModuleWhy) (Refusal ModuleWhy)) → preceded groups (and_then r (λ others u. Ok (g ∷ others, u))) ≡ preceded (groups ++ g ∷ []) r
 one_more groups g (Ok x) = simp append_assoc

@@ -3,9 +3,9 @@ use Rattle.std.specs.Prelude.{◌+◌, ℕ, zero, suc, Bool, false, true, ◌==�
 use Rattle.ca_base.specs.Grammar.{Grammar, Give, Refuse, Here, Left, Byte, Choose, ◌>>=◌}
 use Rattle.ca_base.specs.Items.{u32}
 use Rattle.ca_base.specs.Tables.{in_rows}
-use Rattle.wasm_module.specs.declared.types.Locals.{Locals}
-use Rattle.wasm_module.specs.Expr.{End, Plain, Block, Loop, If, IfElse, Piece}
-use Rattle.wasm_module.specs.Locals.{locals_limit}
+use Rattle.syntax_trees.specs.declared.module_types.Locals.{Locals}
+use Rattle.syntax_trees.specs.Expr.{End, Plain, Block, Loop, If, IfElse, Piece}
+use Rattle.syntax_trees.specs.Locals.{locals_limit}
 use Rattle.wasm_code_reader.specs.declared.fault.ModuleWhy.{ModuleWhy}
 use Rattle.wasm_code_reader.specs.declared.fault.ModuleWhy.TheVariants.{Unsupported, Limit}
 use Rattle.wasm_code_reader.specs.declared.bodies.PlacedBody.{PlacedBody}

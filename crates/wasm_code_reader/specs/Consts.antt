@@ -3,8 +3,8 @@ use Rattle.std.specs.Prelude.{ℕ, zero, suc, ◌==◌, [], ◌∷◌, nat_le}
 use Rattle.ca_base.specs.Grammar.{Grammar, Give, Refuse, Here, Left, Next, Byte, Choose, ◌>>=◌}
 use Rattle.ca_base.specs.Items.{u32, s32, s64, byte_of}
 use Rattle.ca_base.specs.Tables.{in_rows, giving}
-use Rattle.wasm_module.specs.declared.instr.ConstInstr.{ConstInstr}
-use Rattle.wasm_module.specs.declared.instr.ConstInstr.TheVariants.{I32Const, I64Const, GlobalGet}
+use Rattle.syntax_trees.specs.declared.instr.ConstInstr.{ConstInstr}
+use Rattle.syntax_trees.specs.declared.instr.ConstInstr.TheVariants.{I32Const, I64Const, GlobalGet}
 use Rattle.wasm_code_reader.specs.declared.consts.PlacedConst.{PlacedConst}
 use Rattle.wasm_code_reader.specs.declared.fault.ModuleWhy.{ModuleWhy}
 use Rattle.wasm_code_reader.specs.declared.fault.ModuleWhy.TheVariants.{Unsupported}

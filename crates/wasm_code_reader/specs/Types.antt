@@ -3,17 +3,17 @@ use Rattle.std.specs.Prelude.{ℕ, Bool, true, false, ◌==◌, ◌||◌, nat_lt
 use Rattle.ca_base.specs.Grammar.{Grammar, Give, Refuse, Here, Choose, ◌>>=◌}
 use Rattle.ca_base.specs.Items.{marker, u32, vec}
 use Rattle.ca_base.specs.Tables.{by_byte}
-use Rattle.wasm_module.specs.declared.types.ValType.{ValType}
-use Rattle.wasm_module.specs.declared.types.ValType.TheVariants.{I32, I64}
-use Rattle.wasm_module.specs.declared.types.FuncType.{FuncType}
-use Rattle.wasm_module.specs.declared.types.Limits.{Limits}
-use Rattle.wasm_module.specs.declared.types.Mutability.{Mutability}
-use Rattle.wasm_module.specs.declared.types.Mutability.TheVariants.{Constant, Variable}
-use Rattle.wasm_module.specs.declared.types.GlobalType.{GlobalType}
+use Rattle.syntax_trees.specs.declared.module_types.ValType.{ValType}
+use Rattle.syntax_trees.specs.declared.module_types.ValType.TheVariants.{I32, I64}
+use Rattle.syntax_trees.specs.declared.module_types.FuncType.{FuncType}
+use Rattle.syntax_trees.specs.declared.module_types.Limits.{Limits}
+use Rattle.syntax_trees.specs.declared.module_types.Mutability.{Mutability}
+use Rattle.syntax_trees.specs.declared.module_types.Mutability.TheVariants.{Constant, Variable}
+use Rattle.syntax_trees.specs.declared.module_types.GlobalType.{GlobalType}
 use Rattle.wasm_code_reader.specs.declared.fault.ModuleWhy.{ModuleWhy}
 use Rattle.wasm_code_reader.specs.declared.fault.ModuleWhy.TheVariants.{Unsupported, Limit}
 use Rattle.wasm_code_reader.specs.Reasons.{numbers, reasons, byte_why}
-use Rattle.wasm_module.specs.Limited.{starting_pages, starting_entries}
+use Rattle.syntax_trees.specs.Limited.{starting_pages, starting_entries}
 
 -- why a byte that no value type has is refused: 7D and 7C are those of floats
 abbrev pub type_why : ℕ → ModuleWhy

@@ -7,9 +7,9 @@ use crate::fault::ModuleWhy;
 use crate::instrs::{read_block_type, read_instr};
 use crate::parts::{Part, is_else, leave};
 use crate::type_kinds::ValTypes;
-use ca_base::{Kind, ReadError, Refusal, Seq, Window};
+use ca_base::{Kind, ReadError, Refusal, Window};
 use std::alloc::Global;
-use wasm_module::{Body, DeclaredLocals, Locals, Op};
+use syntax_trees::{Body, DeclaredLocals, Locals, Op, Seq};
 
 /// The opcode that ends an expression.
 const END: u8 = 0x0B;

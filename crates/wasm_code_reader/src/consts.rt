@@ -5,9 +5,9 @@ ghost use Rattle.wasm_code_reader.specs.Consts.{const_prefixed, const_instr, con
 
 use crate::fault::{ModuleWhy, refused_byte};
 use crate::opcodes::is_float;
-use ca_base::{ReadError, Refusal, Seq, Window};
+use ca_base::{ReadError, Refusal, Window};
 use std::alloc::Global;
-use wasm_module::ConstInstr;
+use syntax_trees::{ConstInstr, Seq};
 
 /// The opcode that ends an expression.
 const END: u8 = 0x0B;

@@ -9,7 +9,8 @@ use crate::opcodes::{is_float, load, numeric, store};
 use crate::type_kinds::ValTypes;
 use ca_base::{Kind, ReadError, Refusal, Window, read_vec};
 use std::alloc::Global;
-use wasm_module::{BlockType, Instr, MemArg, ValType};
+use syntax_trees::module_types::ValType;
+use syntax_trees::{BlockType, Instr, MemArg};
 
 /// Indices.
 pub struct Indices;

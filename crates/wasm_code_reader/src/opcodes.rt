@@ -3,8 +3,8 @@
 ghost use Rattle.std.specs.Prelude.{◌≡◌, slice_get};
 ghost use Rattle.wasm_code_reader.specs.Opcodes.{among, numeric, load, store, is_float};
 
-use wasm_module::Width::{W32, W64};
-use wasm_module::{BinaryOp, LoadOp, NumericOp, RelationOp, StoreOp, UnaryOp};
+use syntax_trees::Width::{W32, W64};
+use syntax_trees::{BinaryOp, LoadOp, NumericOp, RelationOp, StoreOp, UnaryOp};
 
 /// The comparisons, in the order of their opcodes.
 const RELATIONS: [RelationOp; 10] = [

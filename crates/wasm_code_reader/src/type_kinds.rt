@@ -7,7 +7,8 @@ ghost use Rattle.wasm_code_reader.specs.Types.{limited, bounds, limits, mutabili
 use crate::fault::{ModuleWhy, refused_byte};
 use ca_base::{Kind, ReadError, Refusal, Window, read_vec};
 use std::alloc::Global;
-use wasm_module::{FuncType, GlobalType, Limits, MemoryType, Mutability, TableType, ValType};
+use syntax_trees::module_types::{FuncType, ValType};
+use syntax_trees::{GlobalType, Limits, MemoryType, Mutability, TableType};
 
 /// How many pages a memory may have from the start.
 const MEMORY_LIMIT: u32 = 1_024;

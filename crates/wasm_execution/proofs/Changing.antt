@@ -3,10 +3,10 @@ use Rattle.std.proofs.Common.{◌≡◌, ◌≤◌, ◌<◌, ◌+◌, ◌-◌, �
 use Rattle.std.proofs.lemmas.List.{take-take, take-append-le, length-take-le, reverse-append, reverse-reverse}
 use Rattle.std.specs.List.{slice_get}
 use Rattle.std.specs.Option.{IfSome}
-use Rattle.wasm_module.specs.declared.instr.Op.{Op}
-use Rattle.wasm_module.specs.declared.instr.Instr.{Instr}
-use Rattle.wasm_module.specs.Expr.{Expr, Plain, Piece, tree_of, first_op, behind_op, left_at, flat, op_count}
-use Rattle.wasm_module.proofs.Walking.{op_there}
+use Rattle.syntax_trees.specs.declared.instr.Op.{Op}
+use Rattle.syntax_trees.specs.declared.instr.Instr.{Instr}
+use Rattle.syntax_trees.specs.Expr.{Expr, Plain, Piece, tree_of, first_op, behind_op, left_at, flat, op_count}
+use Rattle.syntax_trees.proofs.Walking.{op_there}
 use Rattle.wasm_store.specs.Stack as stack
 use Rattle.wasm_execution.specs.declared.frame.OpenLabel.{OpenLabel}
 use Rattle.wasm_execution.specs.Places.{rest_at, label_of, labels_of, Encloses, Around}

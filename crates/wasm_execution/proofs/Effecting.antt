@@ -1,15 +1,15 @@
 -- Instructions that leave the blocks and calls around them as they are: what they need is there, and what they make is a move.
 use Rattle.std.proofs.Common.{◌≡◌, ℕ, Bool, true, false, List, [], ◌∷◌, ◌++◌, reverse, refl, ap, sym, ◌∙◌, subst, Option, Some}
 use Rattle.std.specs.List.{slice_get}
-use Rattle.wasm_module.specs.declared.types.ValType.{ValType}
-use Rattle.wasm_module.specs.declared.types.ValType.TheVariants.{I32}
-use Rattle.wasm_module.specs.declared.types.FuncType.{FuncType}
-use Rattle.wasm_module.specs.declared.instr.Instr.{Instr}
-use Rattle.wasm_module.specs.declared.instr.Instr.TheVariants as instr
-use Rattle.wasm_module.specs.declared.instr.NumericOp.{NumericOp}
-use Rattle.wasm_module.specs.declared.instr.NumericOp.TheVariants.{Eqz, Relation, Unary, Binary, WrapI64, ExtendI32S, ExtendI32U, I64Extend32S}
-use Rattle.wasm_module.specs.declared.instr.Width.TheVariants.{W32, W64}
-use Rattle.wasm_module.specs.Expr.{Expr, Plain}
+use Rattle.syntax_trees.specs.declared.module_types.ValType.{ValType}
+use Rattle.syntax_trees.specs.declared.module_types.ValType.TheVariants.{I32}
+use Rattle.syntax_trees.specs.declared.module_types.FuncType.{FuncType}
+use Rattle.syntax_trees.specs.declared.instr.Instr.{Instr}
+use Rattle.syntax_trees.specs.declared.instr.Instr.TheVariants as instr
+use Rattle.syntax_trees.specs.declared.instr.NumericOp.{NumericOp}
+use Rattle.syntax_trees.specs.declared.instr.NumericOp.TheVariants.{Eqz, Relation, Unary, Binary, WrapI64, ExtendI32S, ExtendI32U, I64Extend32S}
+use Rattle.syntax_trees.specs.declared.instr.Width.TheVariants.{W32, W64}
+use Rattle.syntax_trees.specs.Expr.{Expr, Plain}
 use Rattle.wasm_typing.specs.Context.{arrow}
 use Rattle.wasm_typing.specs.Instrs.{numeric_type, where_there, has_memory, unless, is_forbidden, load_gives, store_takes}
 use Rattle.wasm_typing.specs.Typing.{Operands, Takes, Turns, Applies}

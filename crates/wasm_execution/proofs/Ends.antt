@@ -1,7 +1,7 @@
 -- Ends of blocks and of functions, as moves.
 use Rattle.std.proofs.Common.{◌≡◌, ◌+◌, ◌-◌, ◌<◌, ℕ, zero, suc, Bool, true, false, IsTrue, List, [], ◌∷◌, refl, ap, sym, ◌∙◌, subst, arith, Some}
 use Rattle.std.specs.List.{slice_get}
-use Rattle.wasm_module.specs.Expr.{End}
+use Rattle.syntax_trees.specs.Expr.{End}
 use Rattle.wasm_store.specs.Store.{Instance, Store}
 use Rattle.wasm_store.specs.Stack.{Label, Frame, Stack, Running}
 use Rattle.wasm_store.specs.Step.{Move, Goes, with_more, returned, ended, next, units, Moves, Steps}

@@ -2,9 +2,9 @@
 use Rattle.std.proofs.Common.{◌≡◌, ℕ, ◌+◌, ◌<◌, List, [], ◌∷◌, ◌++◌, map, length, take, get_or, replicate, zero, suc, refl, sym, ap, ◌∙◌, append_assoc}
 use Rattle.std.proofs.lemmas.List.{map-append, append-nil}
 use Rattle.std.proofs.lemmas.Grind.{take_at_read}
-use Rattle.wasm_module.specs.declared.types.ValType.{ValType}
-use Rattle.wasm_module.specs.declared.types.Locals.{Locals}
-use Rattle.wasm_module.specs.Locals.{declared_locals}
+use Rattle.syntax_trees.specs.declared.module_types.ValType.{ValType}
+use Rattle.syntax_trees.specs.declared.module_types.Locals.{Locals}
+use Rattle.syntax_trees.specs.Locals.{declared_locals}
 use Rattle.wasm_execution.specs.Zeros.{zeros}
 
 declared_append : (groups more : List Locals) → declared_locals (groups ++ more) ≡ declared_locals groups ++ declared_locals more

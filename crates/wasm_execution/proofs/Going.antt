@@ -1,9 +1,9 @@
 -- What instructions of blocks and branches make of a frame, as moves.
 use Rattle.std.proofs.Common.{◌≡◌, ◌≢◌, ◌⊎◌, ℕ, zero, suc, true, inl, inr, List, ◌∷◌, length, drop, refl, ap, ap₂, sym, ◌∙◌, Option, Some, None}
 use Rattle.std.specs.List.{slice_get}
-use Rattle.wasm_module.specs.declared.instr.BlockType.{BlockType}
-use Rattle.wasm_module.specs.declared.instr.Instr.TheVariants as instr
-use Rattle.wasm_module.specs.Expr.{Expr, End, Plain, Block, Loop, If, IfElse}
+use Rattle.syntax_trees.specs.declared.instr.BlockType.{BlockType}
+use Rattle.syntax_trees.specs.declared.instr.Instr.TheVariants as instr
+use Rattle.syntax_trees.specs.Expr.{Expr, End, Plain, Block, Loop, If, IfElse}
 use Rattle.wasm_typing.specs.Context.{params, results}
 use Rattle.wasm_store.specs.Store.{Instance, Store}
 use Rattle.wasm_store.specs.Stack.{Label, Frame, Running}

@@ -3,7 +3,7 @@ use Rattle.std.proofs.Common.{◌≡◌, ◌≤◌, ◌+◌, ◌-◌, ℕ, zero,
 use Rattle.std.specs.List.{slice_get}
 use Rattle.std.specs.Option.{option_map, IfSome}
 use Rattle.std.proofs.lemmas.List.{take-take, length-take-le, length-reverse}
-use Rattle.wasm_module.specs.Expr.{Expr, Piece, tree_of, left_at}
+use Rattle.syntax_trees.specs.Expr.{Expr, Piece, tree_of, left_at}
 use Rattle.wasm_store.specs.Stack as stack
 use Rattle.wasm_execution.specs.declared.frame.OpenLabel.{OpenLabel}
 use Rattle.wasm_execution.specs.Places.{rest_at, label_of, labels_of, Encloses, Around}

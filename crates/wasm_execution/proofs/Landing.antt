@@ -4,7 +4,7 @@ use Rattle.std.specs.List.{slice_get}
 use Rattle.std.specs.Option.{option_map, IfSome}
 use Rattle.std.proofs.lemmas.List.{take-take, take-append-le, length-take-le, reverse-append, length-reverse, length-map, drop-map}
 use Rattle.std.proofs.lemmas.Option.{slice_get-map, slice_get_within}
-use Rattle.wasm_module.specs.Expr.{Expr, Piece, left_at}
+use Rattle.syntax_trees.specs.Expr.{Expr, Piece, left_at}
 use Rattle.wasm_store.specs.Stack as stack
 use Rattle.wasm_execution.specs.declared.frame.OpenLabel.{OpenLabel}
 use Rattle.wasm_execution.specs.Places.{label_of, labels_of, Encloses, Around}

@@ -2,7 +2,7 @@
 use Rattle.std.proofs.Common.{◌≡◌, ◌<◌, ◌+◌, ◌-◌, ◌^◌, ℕ, List, [], ◌∷◌, ◌++◌, drop, length, reverse, ap, ap₂, sym, ◌∙◌, subst, Option, Some, None, Fits, w64}
 use Rattle.std.specs.Option.{option_map, IfSome}
 use Rattle.std.proofs.lemmas.List.{reverse-append}
-use Rattle.wasm_module.specs.Expr.{Expr, Piece, tree_of, behind_op, left_at, op_count}
+use Rattle.syntax_trees.specs.Expr.{Expr, Piece, tree_of, behind_op, left_at, op_count}
 use Rattle.wasm_code.specs.Jumps as jumps
 use Rattle.wasm_store.specs.Stack as stack
 use Rattle.wasm_execution.specs.declared.frame.OpenLabel.{OpenLabel}

@@ -2,7 +2,7 @@
 use Rattle.std.proofs.Common.{◌≡◌, ◌≤◌, ◌+◌, ℕ, List, [], ◌∷◌, ◌++◌, take, length, reverse, ap, ap₂, ◌∙◌, arith}
 use Rattle.std.proofs.lemmas.List.{take-append-le, reverse-append}
 use Rattle.std.proofs.Common.{length-append}
-use Rattle.wasm_module.specs.Expr.{Expr, Piece, left_at}
+use Rattle.syntax_trees.specs.Expr.{Expr, Piece, left_at}
 use Rattle.wasm_store.specs.Stack as stack
 use Rattle.wasm_store.specs.Step.{with_more}
 use Rattle.wasm_execution.specs.declared.frame.OpenLabel.{OpenLabel}

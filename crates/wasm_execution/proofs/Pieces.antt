@@ -1,10 +1,10 @@
 -- What is left at places of flat code: behind an operation, in the parts of a block and behind its end.
 use Rattle.std.proofs.Common.{◌≡◌, ◌<◌, ◌+◌, ℕ, suc, Bool, true, false, List, [], ◌∷◌, refl, ap, ◌∙◌, arith, Some}
 use Rattle.std.proofs.lemmas.Option.{slice_get_within}
-use Rattle.wasm_module.specs.declared.instr.Instr.{Instr}
-use Rattle.wasm_module.specs.declared.instr.Op.{Op}
-use Rattle.wasm_module.specs.Expr.{Expr, End, Plain, Block, Loop, If, IfElse, Piece, tree_of, flat, first_op, behind_op, left_at, op_count}
-use Rattle.wasm_module.proofs.Walking.{left_more, op_there}
+use Rattle.syntax_trees.specs.declared.instr.Instr.{Instr}
+use Rattle.syntax_trees.specs.declared.instr.Op.{Op}
+use Rattle.syntax_trees.specs.Expr.{Expr, End, Plain, Block, Loop, If, IfElse, Piece, tree_of, flat, first_op, behind_op, left_at, op_count}
+use Rattle.syntax_trees.proofs.Walking.{left_more, op_there}
 use Rattle.wasm_code.specs.Jumps as jumps
 use Rattle.wasm_execution.specs.Places.{Encloses}
 use Rattle.wasm_execution.specs.Shape.{rest_behind, first_part, second_part, BeginsBlock, BeginsIf, BeginsLoop}

@@ -1,9 +1,9 @@
 -- Frames by places: what an operation says of what is left, and frames whose operands have changed.
 use Rattle.std.proofs.Common.{◌≡◌, ◌≤◌, ◌<◌, ◌+◌, ◌^◌, ℕ, true, false, List, [], ◌∷◌, ◌⊎◌, take, length, reverse, refl, ap, ap₂, sym, ◌∙◌, subst, Option, Some, None, inl, inr}
-use Rattle.wasm_module.specs.declared.instr.Instr.{Instr}
-use Rattle.wasm_module.specs.declared.instr.Op.{Op}
-use Rattle.wasm_module.specs.declared.instr.Op.TheVariants.{Plain as PlainOp, OpenBlock, OpenLoop, OpenIf, Else, End as EndOp}
-use Rattle.wasm_module.specs.Expr.{Expr, End, Plain, Block, Loop, If, IfElse, Piece, tree_of, first_op, behind_op, left_at, op_count}
+use Rattle.syntax_trees.specs.declared.instr.Instr.{Instr}
+use Rattle.syntax_trees.specs.declared.instr.Op.{Op}
+use Rattle.syntax_trees.specs.declared.instr.Op.TheVariants.{Plain as PlainOp, OpenBlock, OpenLoop, OpenIf, Else, End as EndOp}
+use Rattle.syntax_trees.specs.Expr.{Expr, End, Plain, Block, Loop, If, IfElse, Piece, tree_of, first_op, behind_op, left_at, op_count}
 use Rattle.wasm_store.specs.Stack as stack
 use Rattle.wasm_execution.specs.declared.frame.OpenLabel.{OpenLabel}
 use Rattle.wasm_execution.specs.declared.frame.Frame.{Frame}

@@ -1,7 +1,7 @@
 -- Frames from which the last value was taken.
 use Rattle.std.proofs.Common.{◌≡◌, ℕ, List, ◌∷◌, ap, sym, ◌∙◌, subst}
-use Rattle.wasm_module.specs.declared.instr.Instr.{Instr}
-use Rattle.wasm_module.specs.Expr.{Expr, Plain}
+use Rattle.syntax_trees.specs.declared.instr.Instr.{Instr}
+use Rattle.syntax_trees.specs.Expr.{Expr, Plain}
 use Rattle.wasm_store.specs.Stack.{Label, Frame}
 use Rattle.wasm_execution.specs.Shape.{rest_behind, HasOver}
 use Rattle.wasm_execution.proofs.Ready.{BranchReady}

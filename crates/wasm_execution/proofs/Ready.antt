@@ -2,11 +2,11 @@
 use Rattle.std.proofs.Common.{◌≡◌, ◌≤◌, ◌+◌, ℕ, zero, suc, List, [], ◌∷◌, ◌++◌, length, reverse, refl, ap, sym, ◌∙◌, subst, arith, Option, Some, length-append}
 use Rattle.std.specs.List.{slice_get}
 use Rattle.std.proofs.lemmas.List.{length-reverse}
-use Rattle.wasm_module.specs.declared.types.ValType.{ValType}
-use Rattle.wasm_module.specs.declared.types.FuncType.{FuncType}
-use Rattle.wasm_module.specs.declared.instr.BlockType.{BlockType}
-use Rattle.wasm_module.specs.declared.instr.Instr.TheVariants as instr
-use Rattle.wasm_module.specs.Expr.{Expr, Plain, Block}
+use Rattle.syntax_trees.specs.declared.module_types.ValType.{ValType}
+use Rattle.syntax_trees.specs.declared.module_types.FuncType.{FuncType}
+use Rattle.syntax_trees.specs.declared.instr.BlockType.{BlockType}
+use Rattle.syntax_trees.specs.declared.instr.Instr.TheVariants as instr
+use Rattle.syntax_trees.specs.Expr.{Expr, Plain, Block}
 use Rattle.wasm_typing.specs.Context.{Context, params}
 use Rattle.wasm_typing.specs.Typing.{Operands, Takes, TypedFrom}
 use Rattle.wasm_numbers.specs.Types.{AreWords}

@@ -1,8 +1,8 @@
 -- Values that are typed with the labels of a frame lie over those under the innermost one.
 use Rattle.std.proofs.Common.{◌≡◌, ◌≤◌, ◌+◌, ℕ, List, [], ◌∷◌, ◌++◌, take, length, reverse, refl, ap, sym, ◌∙◌, subst, arith, length-append}
 use Rattle.std.proofs.lemmas.List.{take-take, take-append-le, length-take-le, reverse-append, reverse-reverse}
-use Rattle.wasm_module.specs.declared.types.ValType.{ValType}
-use Rattle.wasm_module.specs.Expr.{Expr, Piece, left_at}
+use Rattle.syntax_trees.specs.declared.module_types.ValType.{ValType}
+use Rattle.syntax_trees.specs.Expr.{Expr, Piece, left_at}
 use Rattle.wasm_typing.specs.Context.{Context}
 use Rattle.wasm_store.specs.Store.{Store}
 use Rattle.wasm_store.specs.Stack as stack

@@ -1,7 +1,7 @@
 -- Frames by places in flat code (Core 2.0, section 4.4.8): what they are seen as, and what holds of their places.
 use Rattle.std.specs.Prelude.{◌≡◌, ◌≤◌, ◌<◌, ◌^◌, ℕ, true, false, List, [], ◌∷◌, map, reverse, take, length}
 use Rattle.std.specs.Option.{option_map, IfSome}
-use Rattle.wasm_module.specs.Expr.{Expr, Piece, tree_of, left_at, op_count}
+use Rattle.syntax_trees.specs.Expr.{Expr, Piece, tree_of, left_at, op_count}
 use Rattle.wasm_store.specs.Stack as stack
 use Rattle.wasm_execution.specs.declared.frame.OpenLabel.{OpenLabel}
 use Rattle.wasm_execution.specs.declared.frame.Frame.{Frame}

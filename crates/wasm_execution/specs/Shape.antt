@@ -1,6 +1,6 @@
 -- Frames and their parts (Core 2.0, sections 4.4.8 to 4.4.10): what comes behind an instruction, the values over a block, a frame that begins.
 use Rattle.std.specs.Prelude.{◌≡◌, ℕ, ◌+◌, ◌≤◌, Bool, true, false, List, [], ◌∷◌, length, drop, Option, None}
-use Rattle.wasm_module.specs.Expr.{Expr, End, Plain, Block, Loop, If, IfElse}
+use Rattle.syntax_trees.specs.Expr.{Expr, End, Plain, Block, Loop, If, IfElse}
 use Rattle.wasm_store.specs.Stack.{Label, Frame}
 
 -- what comes behind the first instruction

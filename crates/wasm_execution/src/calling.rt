@@ -2,9 +2,9 @@
 
 ghost use Rattle.std.specs.Prelude.{◌≡◌, ◌<◌, Some, length};
 ghost use Rattle.std.specs.List.{slice_get};
-ghost use Rattle.wasm_module.specs.declared.instr.Instr.TheVariants as instr;
-ghost use Rattle.wasm_module.specs.declared.types.FuncType.{FuncType};
-ghost use Rattle.wasm_module.specs.Expr.{Expr, Plain};
+ghost use Rattle.syntax_trees.specs.declared.instr.Instr.TheVariants as instr;
+ghost use Rattle.syntax_trees.specs.declared.module_types.FuncType.{FuncType};
+ghost use Rattle.syntax_trees.specs.Expr.{Expr, Plain};
 ghost use Rattle.wasm_store.specs.Store.{type_of};
 ghost use Rattle.wasm_store.specs.Step.{same_signature};
 ghost use Rattle.wasm_store.specs.Typed.{StoreTyped};
@@ -14,7 +14,7 @@ ghost use Rattle.wasm_execution.specs.Stepping.{IsTyped, StepGives, PlacedAfter}
 
 use crate::frame::Frame;
 use crate::stepping::Step;
-use wasm_module::FuncType;
+use syntax_trees::module_types::FuncType;
 use wasm_store::{FunctionInstance, Store, Trap};
 
 /// `call`.

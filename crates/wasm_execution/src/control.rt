@@ -1,11 +1,11 @@
 //! What comes next in a function's code.
 
-ghost use Rattle.wasm_module.specs.Expr.{Expr, Plain};
+ghost use Rattle.syntax_trees.specs.Expr.{Expr, Plain};
 ghost use Rattle.wasm_execution.specs.Places.{frame_of};
 ghost use Rattle.wasm_execution.specs.Stepping.{ComesNext, IsEnd};
 
 use crate::frame::Frame;
-use wasm_module::{BlockType, Instr, Op};
+use syntax_trees::{BlockType, Instr, Op};
 
 /// What comes next in a function's code.
 #[derive(Clone, Copy)]

@@ -1,14 +1,14 @@
 //! Blocks, loops and `if` that begin.
 
 ghost use Rattle.std.specs.Prelude.{◌≡◌, ◌⊎◌, IfOk};
-ghost use Rattle.wasm_module.specs.Expr.{Expr, Block, Loop, If, IfElse};
+ghost use Rattle.syntax_trees.specs.Expr.{Expr, Block, Loop, If, IfElse};
 ghost use Rattle.wasm_execution.specs.Places.{frame_of, IsPlaced};
 ghost use Rattle.wasm_execution.specs.Stepping.{IsTyped, StepGives, PlacedAfter};
 
 use crate::frame::Frame;
 use crate::stepping::Step;
-use ca_base::Memory;
-use wasm_module::BlockType;
+use faults::Memory;
+use syntax_trees::BlockType;
 use wasm_store::Store;
 
 /// `block`.

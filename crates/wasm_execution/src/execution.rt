@@ -3,7 +3,7 @@
 ghost use Rattle.std.specs.Prelude.{◌≡◌, ℕ, List, Some};
 ghost use Rattle.std.specs.List.{slice_get, AllByRecursion};
 ghost use Rattle.wasm_store.specs.Store.{Function};
-ghost use Rattle.wasm_module.specs.declared.types.ValType.{ValType};
+ghost use Rattle.syntax_trees.specs.declared.module_types.ValType.{ValType};
 ghost use Rattle.wasm_store.specs.Stack as stack;
 ghost use Rattle.wasm_store.specs.Typed.{StoreTyped, StackTyped};
 ghost use Rattle.wasm_execution.specs.Places.{frame_of, IsPlaced};
@@ -14,8 +14,9 @@ use crate::frame::Frame;
 use crate::invoking::{Invoked, give_back, invoke};
 use crate::running::{Frames, Outcome, Running, State, Suspended};
 use crate::turn::{Pause, run_function};
-use ca_base::{Fuel, Seq};
+use ca_base::Fuel;
 use std::alloc::Global;
+use syntax_trees::Seq;
 use wasm_store::{FunctionInstance, Store, Trap};
 
 /// Runs a stack until it ends, calls a function of the host, traps, or fuel is wanting (Core 2.0, section 4.4). Each

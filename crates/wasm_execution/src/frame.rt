@@ -1,8 +1,8 @@
 //! Functions that run, or that wait for what they called.
 
 ghost use Rattle.std.specs.Prelude.{◌≡◌, ◌∷◌, reverse, take, drop, IfOk};
-ghost use Rattle.wasm_module.specs.declared.instr.Instr.{Instr};
-ghost use Rattle.wasm_module.specs.Expr.{Expr, End, Plain};
+ghost use Rattle.syntax_trees.specs.declared.instr.Instr.{Instr};
+ghost use Rattle.syntax_trees.specs.Expr.{Expr, End, Plain};
 ghost use Rattle.wasm_store.specs.Step.{with_more};
 ghost use Rattle.wasm_execution.specs.Places.{frame_of, IsPlaced};
 ghost use Rattle.wasm_execution.specs.Shape.{rest_behind, Leaves, HasOver, begun};

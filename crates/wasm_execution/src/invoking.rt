@@ -12,9 +12,9 @@ ghost use Rattle.wasm_execution.specs.Invoking.{InvokeGives};
 
 use crate::frame::Frame;
 use crate::starting::begin;
-use ca_base::Memory;
+use faults::Memory;
 use std::alloc::{AllocError, Global};
-use wasm_module::FuncType;
+use syntax_trees::module_types::FuncType;
 use wasm_store::{FunctionInstance, OwnFunction, Store};
 
 /// How many frames a stack may have.

@@ -4,8 +4,8 @@ ghost use Rattle.std.specs.Prelude.{◌≡◌, length};
 ghost use Rattle.wasm_store.specs.Step.{resume};
 
 use crate::frame::Frame;
-use ca_base::Seq;
 use std::marker::Model;
+use syntax_trees::Seq;
 use wasm_store::Trap;
 
 /// A list of values.

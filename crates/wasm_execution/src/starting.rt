@@ -10,10 +10,10 @@ ghost use Rattle.wasm_execution.specs.Zeros.{zeros};
 
 use crate::frame::Frame;
 use crate::running::{Frames, Running, State, Suspended};
-use ca_base::Memory;
+use faults::Memory;
 use std::alloc::{AllocError, Global};
 use std::rc::Rc;
-use wasm_module::Locals;
+use syntax_trees::Locals;
 use wasm_store::{FunctionInstance, OwnFunction, Store};
 
 /// A call of the function at an address of the store, with these arguments. It fails for want of memory alone.

@@ -2,9 +2,9 @@
 
 ghost use Rattle.std.specs.Prelude.{◌≡◌, ◌⊎◌, IfOk, OnErr, Some, ℕ, List};
 ghost use Rattle.std.specs.List.{slice_get};
-ghost use Rattle.wasm_module.specs.declared.instr.Instr.{Instr};
-ghost use Rattle.wasm_module.specs.declared.instr.Instr.TheVariants as instr;
-ghost use Rattle.wasm_module.specs.Expr.{Expr, Plain};
+ghost use Rattle.syntax_trees.specs.declared.instr.Instr.{Instr};
+ghost use Rattle.syntax_trees.specs.declared.instr.Instr.TheVariants as instr;
+ghost use Rattle.syntax_trees.specs.Expr.{Expr, Plain};
 ghost use Rattle.wasm_store.specs.Store.{Store};
 ghost use Rattle.wasm_store.specs.Step.{table_label};
 ghost use Rattle.wasm_store.specs.Typed.{StoreTyped};
@@ -16,8 +16,8 @@ use crate::calling::{call, call_indirect};
 use crate::control::Control;
 use crate::entering::{enter_block, enter_loop, enter_one_of};
 use crate::frame::Frame;
-use ca_base::Memory;
-use wasm_module::{Instr, Op};
+use faults::Memory;
+use syntax_trees::{Instr, Op};
 use wasm_store::{Store, Trap};
 
 /// What came of an instruction.

@@ -2,13 +2,14 @@
 
 ghost use Rattle.std.specs.Prelude.{◌≡◌, IfOk, OnErr, true, false};
 ghost use Rattle.wasm_store.specs.Typed.{StoreTyped};
-ghost use Rattle.wasm_module.specs.Expr.{End};
+ghost use Rattle.syntax_trees.specs.Expr.{End};
 ghost use Rattle.wasm_execution.specs.Places.{frame_of, IsPlaced};
 ghost use Rattle.wasm_execution.specs.Stepping.{IsTyped, LeavesTo, ComesTo, Pauses, Halts, PlacedAt};
 
 use crate::frame::Frame;
 use crate::stepping::{Step, make_step};
-use ca_base::{Fuel, Memory};
+use ca_base::Fuel;
+use faults::Memory;
 use wasm_store::{Store, Trap};
 
 /// Why a function pauses.

@@ -4,8 +4,8 @@ use Rattle.std.proofs.lemmas.Bool.{cond_both, cond-true, leb-true, le-leb}
 use Rattle.std.proofs.lemmas.Nat.{pow_pos, mod_below, from_le_bytes-to_le_bytes_2, from_le_bytes-to_le_bytes_4, from_le_bytes-to_le_bytes_8}
 use Rattle.std.specs.Option.{option_map}
 use Rattle.std.specs.Int.{Width, w8, w16, w32, w64, byte_len, from_le_bytes, to_le_bytes}
-use Rattle.wasm_module.specs.declared.instr.LoadOp.TheVariants.{I32Load, I64Load, I32Load8U, I32Load16U, I64Load8U, I64Load16U, I64Load32U}
-use Rattle.wasm_module.specs.declared.instr.StoreOp.TheVariants.{I32Store, I64Store, I32Store8, I32Store16, I64Store8, I64Store16, I64Store32}
+use Rattle.syntax_trees.specs.declared.instr.LoadOp.TheVariants.{I32Load, I64Load, I32Load8U, I32Load16U, I64Load8U, I64Load16U, I64Load32U}
+use Rattle.syntax_trees.specs.declared.instr.StoreOp.TheVariants.{I32Store, I64Store, I32Store8, I32Store16, I64Store8, I64Store16, I64Store32}
 use Rattle.wasm_memory.specs.Bytes.{is_inside, number_at, with_at, put}
 use Rattle.wasm_memory.specs.Loads.{value_of, read_width}
 use Rattle.wasm_memory.specs.Laws.{StoredIsLoaded, OthersAreLoaded}

@@ -7,8 +7,8 @@ use Rattle.std.specs.Prelude.{ℤ, pos, negsuc, unsigned_abs}
 use Rattle.std.specs.Option.{option_map}
 use Rattle.std.specs.Int.{Width, w8, w16, w32, w64, byte_len, from_le_bytes, cast_signed, cast_unsigned}
 use mir.Val.{bits, hbits, sel}
-use Rattle.wasm_module.specs.declared.instr.LoadOp.{LoadOp}
-use Rattle.wasm_module.specs.declared.instr.LoadOp.TheVariants.{I32Load, I64Load, I32Load8S, I32Load8U, I32Load16S, I32Load16U, I64Load8S, I64Load8U, I64Load16S, I64Load16U, I64Load32S, I64Load32U}
+use Rattle.syntax_trees.specs.declared.instr.LoadOp.{LoadOp}
+use Rattle.syntax_trees.specs.declared.instr.LoadOp.TheVariants.{I32Load, I64Load, I32Load8S, I32Load8U, I32Load16S, I32Load16U, I64Load8S, I64Load8U, I64Load16S, I64Load16U, I64Load32S, I64Load32U}
 use Rattle.wasm_memory.specs.Bytes.{is_inside, number_at}
 use Rattle.wasm_memory.specs.Loads.{result_width, extended, value_of, loaded}
 use Rattle.wasm_memory.specs.Laws.{LoadsHaveTheirType}

@@ -2,10 +2,10 @@
 use Rattle.std.specs.Prelude.{◌≡◌, ℕ, ◌+◌, ◌%◌, ◌^◌, ◌<◌, ◌≤◌, ◌⊎◌, List, length, Some, slice_index}
 use Rattle.std.specs.Int.{byte_len}
 use mir.Val.{bits}
-use Rattle.wasm_module.specs.declared.instr.LoadOp.{LoadOp}
-use Rattle.wasm_module.specs.declared.instr.LoadOp.TheVariants.{I32Load, I64Load, I32Load8U, I32Load16U, I64Load8U, I64Load16U, I64Load32U}
-use Rattle.wasm_module.specs.declared.instr.StoreOp.{StoreOp}
-use Rattle.wasm_module.specs.declared.instr.StoreOp.TheVariants.{I32Store, I64Store, I32Store8, I32Store16, I64Store8, I64Store16, I64Store32}
+use Rattle.syntax_trees.specs.declared.instr.LoadOp.{LoadOp}
+use Rattle.syntax_trees.specs.declared.instr.LoadOp.TheVariants.{I32Load, I64Load, I32Load8U, I32Load16U, I64Load8U, I64Load16U, I64Load32U}
+use Rattle.syntax_trees.specs.declared.instr.StoreOp.{StoreOp}
+use Rattle.syntax_trees.specs.declared.instr.StoreOp.TheVariants.{I32Store, I64Store, I32Store8, I32Store16, I64Store8, I64Store16, I64Store32}
 use Rattle.wasm_memory.specs.Bytes.{put}
 use Rattle.wasm_memory.specs.Loads.{loaded, read_width, result_width}
 use Rattle.wasm_memory.specs.Stores.{stored_bytes}

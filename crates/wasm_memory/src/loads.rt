@@ -7,7 +7,7 @@ ghost use Rattle.wasm_memory.specs.Bytes.{number_at};
 ghost use Rattle.wasm_memory.specs.Loads.{loaded, extended, result_width};
 
 use crate::bounds::is_inside;
-use wasm_module::LoadOp;
+use syntax_trees::LoadOp;
 
 /// The number that the byte at a place is.
 #[inline]

@@ -10,10 +10,10 @@ ghost use Rattle.wasm_memory.specs.Memories.{IsMemory, page_count, most_pages, m
 
 use crate::bounds::{OutOfBounds, effective};
 use crate::{bulk, loads, stores};
-use ca_base::Memory;
+use faults::Memory;
 use std::alloc::Global;
 use std::marker::Model;
-use wasm_module::{LoadOp, StoreOp};
+use syntax_trees::{LoadOp, StoreOp};
 
 /// The bytes of a page.
 pub const PAGE_SIZE: u32 = 65_536;

@@ -5,7 +5,7 @@ ghost use Rattle.wasm_memory.specs.Bytes.{is_inside, put};
 ghost use Rattle.wasm_memory.specs.Stores.{stored_bytes};
 
 use crate::bulk::put;
-use wasm_module::StoreOp;
+use syntax_trees::StoreOp;
 
 /// Stores a value from a place on, where its bytes are all inside, and answers whether they are.
 pub(crate) fn store(memory: &mut [u8], op: StoreOp, at: u64, value: u64) -> bool

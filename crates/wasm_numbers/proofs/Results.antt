@@ -5,15 +5,15 @@ use Rattle.std.specs.Prelude.{IsSome, if◌then◌else◌, ◌==◌, bit_or}
 use Rattle.std.specs.Int.{Width as Bits, w8, w16, w32, w64, cast_signed}
 use native.Mathlib.Nat.{mod-le}
 use mir.Val.{bits}
-use Rattle.wasm_module.specs.declared.types.ValType.{ValType}
-use Rattle.wasm_module.specs.declared.types.ValType.TheVariants.{I32, I64}
-use Rattle.wasm_module.specs.declared.instr.Width.TheVariants.{W32, W64}
-use Rattle.wasm_module.specs.declared.instr.UnaryOp.{UnaryOp}
-use Rattle.wasm_module.specs.declared.instr.UnaryOp.TheVariants.{Clz, Ctz, Popcnt, Extend8S, Extend16S}
-use Rattle.wasm_module.specs.declared.instr.BinaryOp.{BinaryOp}
-use Rattle.wasm_module.specs.declared.instr.BinaryOp.TheVariants.{Add, Sub, Mul, DivS, DivU, RemS, RemU, And, Or, Xor, Shl, ShrS, ShrU, Rotl, Rotr}
-use Rattle.wasm_module.specs.declared.instr.NumericOp.{NumericOp}
-use Rattle.wasm_module.specs.declared.instr.NumericOp.TheVariants.{Eqz, Relation, Unary, Binary, WrapI64, ExtendI32S, ExtendI32U, I64Extend32S}
+use Rattle.syntax_trees.specs.declared.module_types.ValType.{ValType}
+use Rattle.syntax_trees.specs.declared.module_types.ValType.TheVariants.{I32, I64}
+use Rattle.syntax_trees.specs.declared.instr.Width.TheVariants.{W32, W64}
+use Rattle.syntax_trees.specs.declared.instr.UnaryOp.{UnaryOp}
+use Rattle.syntax_trees.specs.declared.instr.UnaryOp.TheVariants.{Clz, Ctz, Popcnt, Extend8S, Extend16S}
+use Rattle.syntax_trees.specs.declared.instr.BinaryOp.{BinaryOp}
+use Rattle.syntax_trees.specs.declared.instr.BinaryOp.TheVariants.{Add, Sub, Mul, DivS, DivU, RemS, RemU, And, Or, Xor, Shl, ShrS, ShrU, Rotl, Rotr}
+use Rattle.syntax_trees.specs.declared.instr.NumericOp.{NumericOp}
+use Rattle.syntax_trees.specs.declared.instr.NumericOp.TheVariants.{Eqz, Relation, Unary, Binary, WrapI64, ExtendI32S, ExtendI32U, I64Extend32S}
 use Rattle.wasm_numbers.specs.declared.trap.NumberTrap.{NumberTrap}
 use Rattle.wasm_numbers.specs.Numeric.{width_of, has_no_quotient, binary, unary, relation, truth, evaluated}
 use Rattle.wasm_numbers.specs.Types.{integer, operand_types, result_type, IsWord, AreWords}

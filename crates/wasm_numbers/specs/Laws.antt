@@ -1,6 +1,6 @@
 -- What holds of all numeric instructions.
 use Rattle.std.specs.Prelude.{◌≡◌, ℕ, List, Some, Ok, IsSome}
-use Rattle.wasm_module.specs.declared.instr.NumericOp.{NumericOp}
+use Rattle.syntax_trees.specs.declared.instr.NumericOp.{NumericOp}
 use Rattle.wasm_numbers.specs.Numeric.{evaluated}
 use Rattle.wasm_numbers.specs.Types.{IsWord, AreWords, operand_types, result_type}
 

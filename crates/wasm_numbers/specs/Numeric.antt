@@ -5,16 +5,16 @@ use Rattle.std.specs.Int.{Width as Bits, w8, w16, w32, w64, cast_signed, cast_un
 use mir.Val.{bits, hbits}
 use Rattle.wasm_numbers.specs.declared.trap.NumberTrap.{NumberTrap}
 use Rattle.wasm_numbers.specs.declared.trap.NumberTrap.TheVariants.{DivideByZero, DivideOverflow}
-use Rattle.wasm_module.specs.declared.instr.Width.{Width}
-use Rattle.wasm_module.specs.declared.instr.Width.TheVariants.{W32, W64}
-use Rattle.wasm_module.specs.declared.instr.UnaryOp.{UnaryOp}
-use Rattle.wasm_module.specs.declared.instr.UnaryOp.TheVariants.{Clz, Ctz, Popcnt, Extend8S, Extend16S}
-use Rattle.wasm_module.specs.declared.instr.BinaryOp.{BinaryOp}
-use Rattle.wasm_module.specs.declared.instr.BinaryOp.TheVariants.{Add, Sub, Mul, DivS, DivU, RemS, RemU, And, Or, Xor, Shl, ShrS, ShrU, Rotl, Rotr}
-use Rattle.wasm_module.specs.declared.instr.RelationOp.{RelationOp}
-use Rattle.wasm_module.specs.declared.instr.RelationOp.TheVariants.{Eq, Ne, LtS, LtU, GtS, GtU, LeS, LeU, GeS, GeU}
-use Rattle.wasm_module.specs.declared.instr.NumericOp.{NumericOp}
-use Rattle.wasm_module.specs.declared.instr.NumericOp.TheVariants.{Eqz, Relation, Unary, Binary, WrapI64, ExtendI32S, ExtendI32U, I64Extend32S}
+use Rattle.syntax_trees.specs.declared.instr.Width.{Width}
+use Rattle.syntax_trees.specs.declared.instr.Width.TheVariants.{W32, W64}
+use Rattle.syntax_trees.specs.declared.instr.UnaryOp.{UnaryOp}
+use Rattle.syntax_trees.specs.declared.instr.UnaryOp.TheVariants.{Clz, Ctz, Popcnt, Extend8S, Extend16S}
+use Rattle.syntax_trees.specs.declared.instr.BinaryOp.{BinaryOp}
+use Rattle.syntax_trees.specs.declared.instr.BinaryOp.TheVariants.{Add, Sub, Mul, DivS, DivU, RemS, RemU, And, Or, Xor, Shl, ShrS, ShrU, Rotl, Rotr}
+use Rattle.syntax_trees.specs.declared.instr.RelationOp.{RelationOp}
+use Rattle.syntax_trees.specs.declared.instr.RelationOp.TheVariants.{Eq, Ne, LtS, LtU, GtS, GtU, LeS, LeU, GeS, GeU}
+use Rattle.syntax_trees.specs.declared.instr.NumericOp.{NumericOp}
+use Rattle.syntax_trees.specs.declared.instr.NumericOp.TheVariants.{Eqz, Relation, Unary, Binary, WrapI64, ExtendI32S, ExtendI32U, I64Extend32S}
 
 -- a width as std has it
 abbrev pub width_of : Width → Bits

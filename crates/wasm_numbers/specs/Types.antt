@@ -1,12 +1,12 @@
 -- The types of the operands and of the result of each numeric instruction (Core 2.0, section 3.3.1), and the numbers that
 -- are values of a type.
 use Rattle.std.specs.Prelude.{ℕ, ◌<◌, ◌^◌, List, [], ◌∷◌}
-use Rattle.wasm_module.specs.declared.types.ValType.{ValType}
-use Rattle.wasm_module.specs.declared.types.ValType.TheVariants.{I32, I64}
-use Rattle.wasm_module.specs.declared.instr.Width.{Width}
-use Rattle.wasm_module.specs.declared.instr.Width.TheVariants.{W32, W64}
-use Rattle.wasm_module.specs.declared.instr.NumericOp.{NumericOp}
-use Rattle.wasm_module.specs.declared.instr.NumericOp.TheVariants.{Eqz, Relation, Unary, Binary, WrapI64, ExtendI32S, ExtendI32U, I64Extend32S}
+use Rattle.syntax_trees.specs.declared.module_types.ValType.{ValType}
+use Rattle.syntax_trees.specs.declared.module_types.ValType.TheVariants.{I32, I64}
+use Rattle.syntax_trees.specs.declared.instr.Width.{Width}
+use Rattle.syntax_trees.specs.declared.instr.Width.TheVariants.{W32, W64}
+use Rattle.syntax_trees.specs.declared.instr.NumericOp.{NumericOp}
+use Rattle.syntax_trees.specs.declared.instr.NumericOp.TheVariants.{Eqz, Relation, Unary, Binary, WrapI64, ExtendI32S, ExtendI32U, I64Extend32S}
 
 -- the type of integers of a width
 abbrev pub integer : Width → ValType

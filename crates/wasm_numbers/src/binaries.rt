@@ -9,7 +9,7 @@ use crate::division::{
     i32_div_s, i32_div_u, i32_rem_s, i32_rem_u, i64_div_s, i64_div_u, i64_rem_s, i64_rem_u,
 };
 use crate::trap::NumberTrap;
-use wasm_module::{BinaryOp, Width};
+use syntax_trees::{BinaryOp, Width};
 
 /// An operation of two i32.
 fn i32_binary(op: BinaryOp, a: u32, b: u32) -> Result<u32, NumberTrap>

@@ -9,7 +9,7 @@ use crate::binaries::binary;
 use crate::relations::relation;
 use crate::trap::NumberTrap;
 use crate::unaries::unary;
-use wasm_module::NumericOp;
+use syntax_trees::NumericOp;
 
 /// How many operands a numeric instruction takes: 1 or 2.
 pub fn operand_count(op: NumericOp) -> usize

@@ -5,7 +5,7 @@ ghost use Rattle.std.specs.Int.{w32, w64};
 ghost use Rattle.wasm_numbers.specs.Numeric.{relation, width_of};
 ghost use Rattle.wasm_numbers.specs.Types.{IsWord, integer};
 
-use wasm_module::{RelationOp, Width};
+use syntax_trees::{RelationOp, Width};
 
 /// Whether a comparison of two i32 holds.
 fn i32_relation(op: RelationOp, a: u32, b: u32) -> bool

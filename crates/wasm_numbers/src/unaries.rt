@@ -5,7 +5,7 @@ ghost use Rattle.std.specs.Int.{w32, w64};
 ghost use Rattle.wasm_numbers.specs.Numeric.{unary, width_of};
 ghost use Rattle.wasm_numbers.specs.Types.{IsWord, integer};
 
-use wasm_module::{UnaryOp, Width};
+use syntax_trees::{UnaryOp, Width};
 
 /// An operation of one i32.
 fn i32_unary(op: UnaryOp, a: u32) -> u32

@@ -3,7 +3,8 @@
 ghost use Rattle.std.specs.Prelude.{IsTrue, ◌↔◌, [], ◌∷◌};
 ghost use Rattle.wasm_numbers.specs.Types.{IsWord, AreWords, integer, operand_types};
 
-use wasm_module::{NumericOp, ValType, Width};
+use syntax_trees::module_types::ValType;
+use syntax_trees::{NumericOp, Width};
 
 /// Whether a number is a value of a type.
 pub fn is_word(value_type: ValType, number: u64) -> bool

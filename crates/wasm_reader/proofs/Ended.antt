@@ -7,7 +7,7 @@ use Rattle.ca_base.specs.Grammar.{Matches, next_byte}
 use Rattle.ca_base.proofs.Laws.{matches_past, decided}
 use Rattle.ca_base.proofs.Places.{matches_end, at_its_end}
 use Rattle.ca_base.proofs.Whole.{whole_decided}
-use Rattle.wasm_module.specs.declared.module.ModuleParts.{ModuleParts}
+use Rattle.wasm_typing.specs.declared.module_places.ModuleParts.{ModuleParts}
 use Rattle.wasm_code_reader.specs.declared.fault.ModuleWhy.{ModuleWhy}
 use Rattle.wasm_reader.specs.declared.declared.DeclaredFunc.{DeclaredFunc}
 use Rattle.wasm_reader.specs.declared.declared.Contents.{Contents}

@@ -8,16 +8,16 @@ use Rattle.ca_base.specs.Grammar.{Grammar, read, times, Matches}
 use Rattle.ca_base.specs.Items.{each, vec, is_byte}
 use Rattle.ca_base.specs.declared.placed.Placed.{Placed}
 use Rattle.ca_base.proofs.Laws.{reads_matches}
-use Rattle.wasm_module.specs.declared.module.Func.{Func}
-use Rattle.wasm_module.specs.declared.module.FuncPlaces.{FuncPlaces}
-use Rattle.wasm_module.specs.declared.module.Global.{Global}
-use Rattle.wasm_module.specs.declared.module.GlobalPlaces.{GlobalPlaces}
-use Rattle.wasm_module.specs.declared.module.ElementSegment.{ElementSegment}
-use Rattle.wasm_module.specs.declared.module.ElementPlaces.{ElementPlaces}
-use Rattle.wasm_module.specs.declared.module.DataSegment.{DataSegment}
-use Rattle.wasm_module.specs.declared.module.DataPlaces.{DataPlaces}
-use Rattle.wasm_module.specs.Expr.{op_count}
-use Rattle.wasm_module.specs.Places.{Fits}
+use Rattle.syntax_trees.specs.declared.module.Func.{Func}
+use Rattle.wasm_typing.specs.declared.module_places.FuncPlaces.{FuncPlaces}
+use Rattle.syntax_trees.specs.declared.module.Global.{Global}
+use Rattle.wasm_typing.specs.declared.module_places.GlobalPlaces.{GlobalPlaces}
+use Rattle.syntax_trees.specs.declared.module.ElementSegment.{ElementSegment}
+use Rattle.wasm_typing.specs.declared.module_places.ElementPlaces.{ElementPlaces}
+use Rattle.syntax_trees.specs.declared.module.DataSegment.{DataSegment}
+use Rattle.wasm_typing.specs.declared.module_places.DataPlaces.{DataPlaces}
+use Rattle.syntax_trees.specs.Expr.{op_count}
+use Rattle.wasm_typing.specs.Places.{Fits}
 use Rattle.wasm_code_reader.specs.declared.fault.ModuleWhy.{ModuleWhy}
 use Rattle.wasm_reader.specs.declared.declared.DeclaredFunc.{DeclaredFunc}
 use Rattle.wasm_reader.specs.declared.declared.Declarations.{Declarations}

@@ -7,11 +7,11 @@ use Rattle.ca_base.specs.Span.{Span, window}
 use Rattle.ca_base.specs.Grammar.{Grammar, Give, Refuse, Choose, Byte, ◌>>=◌, times, Matches}
 use Rattle.ca_base.specs.Items.{NumberReasons, Reasons, u32, placed, vec, sized, is_byte}
 use Rattle.ca_base.specs.declared.placed.Placed.{Placed}
-use Rattle.wasm_module.specs.declared.types.Limits.{Limits}
-use Rattle.wasm_module.specs.declared.module.ModuleParts.{ModuleParts}
+use Rattle.syntax_trees.specs.declared.module_types.Limits.{Limits}
+use Rattle.wasm_typing.specs.declared.module_places.ModuleParts.{ModuleParts}
 use Rattle.wasm_code_reader.specs.declared.fault.ModuleWhy.{ModuleWhy}
 use Rattle.wasm_code_reader.specs.declared.fault.ModuleWhy.TheVariants.{Unsupported, Limit}
-use Rattle.wasm_module.specs.Limited.{starting_pages}
+use Rattle.syntax_trees.specs.Limited.{starting_pages}
 use Rattle.wasm_code_reader.specs.Reasons.{numbers, reasons}
 use Rattle.wasm_code_reader.specs.Types.{limited, bounds, limits, memory_type}
 use Rattle.wasm_reader.specs.declared.declared.Definitions.{Definitions}

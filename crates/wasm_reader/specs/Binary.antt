@@ -6,7 +6,7 @@ use Rattle.ca_base.specs.Grammar.{Grammar, Give, Refuse, Here, Left, Next, Byte,
 use Rattle.ca_base.specs.Items.{fixed, u32, custom, sized, vec, placed, section, is_byte}
 use Rattle.ca_base.specs.declared.refusal.Refusal.{Refusal}
 use Rattle.ca_base.specs.declared.placed.Placed.{Placed}
-use Rattle.wasm_module.specs.declared.module.ModuleParts.{ModuleParts}
+use Rattle.wasm_typing.specs.declared.module_places.ModuleParts.{ModuleParts}
 use Rattle.wasm_code_reader.specs.declared.fault.ModuleWhy.{ModuleWhy}
 use Rattle.wasm_code_reader.specs.declared.fault.ModuleWhy.TheVariants.{Truncated, Magic, SectionOrder, Unsupported, Count}
 use Rattle.wasm_reader.specs.declared.declared.DeclaredFunc.{DeclaredFunc}

@@ -2,8 +2,8 @@
 use Rattle.std.specs.Prelude.{◌==◌, List, length}
 use Rattle.ca_base.specs.Grammar.{Grammar, Give, Refuse, Here, Choose, ◌>>=◌}
 use Rattle.ca_base.specs.Items.{u32, sized, each}
-use Rattle.wasm_module.specs.declared.module.Func.{Func}
-use Rattle.wasm_module.specs.declared.module.FuncPlaces.{FuncPlaces}
+use Rattle.syntax_trees.specs.declared.module.Func.{Func}
+use Rattle.wasm_typing.specs.declared.module_places.FuncPlaces.{FuncPlaces}
 use Rattle.wasm_code_reader.specs.declared.fault.ModuleWhy.{ModuleWhy}
 use Rattle.wasm_code_reader.specs.declared.fault.ModuleWhy.TheVariants.{Count}
 use Rattle.wasm_code_reader.specs.Reasons.{numbers, reasons}

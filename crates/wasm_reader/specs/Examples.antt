@@ -3,14 +3,14 @@ use Rattle.std.specs.Prelude.{ℕ, List, [], ◌∷◌, None}
 use Rattle.ca_base.specs.declared.refusal.Refusal.{Refusal}
 use Rattle.wasm_code_reader.specs.declared.fault.ModuleWhy.{ModuleWhy}
 use Rattle.wasm_code_reader.specs.declared.fault.ModuleWhy.TheVariants.{Unsupported}
-use Rattle.wasm_module.specs.declared.types.ValType.TheVariants.{I32}
-use Rattle.wasm_module.specs.declared.module.ModuleParts.{ModuleParts}
-use Rattle.wasm_module.specs.declared.module.ExportDesc.TheVariants as export_desc
-use Rattle.wasm_module.specs.declared.instr.Instr.TheVariants.{LocalGet, Numeric}
-use Rattle.wasm_module.specs.declared.instr.NumericOp.TheVariants.{Binary}
-use Rattle.wasm_module.specs.declared.instr.Width.TheVariants.{W32}
-use Rattle.wasm_module.specs.declared.instr.BinaryOp.TheVariants.{Add}
-use Rattle.wasm_module.specs.Expr.{End, Plain}
+use Rattle.syntax_trees.specs.declared.module_types.ValType.TheVariants.{I32}
+use Rattle.wasm_typing.specs.declared.module_places.ModuleParts.{ModuleParts}
+use Rattle.syntax_trees.specs.declared.module.ExportDesc.TheVariants as export_desc
+use Rattle.syntax_trees.specs.declared.instr.Instr.TheVariants.{LocalGet, Numeric}
+use Rattle.syntax_trees.specs.declared.instr.NumericOp.TheVariants.{Binary}
+use Rattle.syntax_trees.specs.declared.instr.Width.TheVariants.{W32}
+use Rattle.syntax_trees.specs.declared.instr.BinaryOp.TheVariants.{Add}
+use Rattle.syntax_trees.specs.Expr.{End, Plain}
 
 -- the bytes, with this opcode in the place of the addition
 unfoldable pub bytes_with : ℕ → List ℕ

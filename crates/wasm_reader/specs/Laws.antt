@@ -2,7 +2,7 @@
 use Rattle.std.specs.Prelude.{◌≡◌, ◌⊎◌, ℕ, List}
 use Rattle.ca_base.specs.declared.refusal.Refusal.{Refusal}
 use Rattle.wasm_code_reader.specs.declared.fault.ModuleWhy.{ModuleWhy}
-use Rattle.wasm_module.specs.declared.module.ModuleParts.{ModuleParts}
+use Rattle.wasm_typing.specs.declared.module_places.ModuleParts.{ModuleParts}
 use Rattle.wasm_reader.specs.Binary.{IsModule, IsRefused}
 
 -- Bytes are exactly one module, or are refused at exactly one place for exactly one reason.

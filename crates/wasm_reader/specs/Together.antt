@@ -1,5 +1,5 @@
 -- A module of the parts that its sections are taken apart to.
-use Rattle.wasm_module.specs.declared.module.ModuleParts.{ModuleParts}
+use Rattle.wasm_typing.specs.declared.module_places.ModuleParts.{ModuleParts}
 use Rattle.wasm_reader.specs.declared.whole.DeclaredParts.{DeclaredParts}
 use Rattle.wasm_reader.specs.declared.whole.DefinedParts.{DefinedParts}
 use Rattle.wasm_reader.specs.declared.whole.UsedParts.{UsedParts}

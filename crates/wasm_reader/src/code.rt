@@ -5,10 +5,11 @@ ghost use Rattle.wasm_reader.specs.Code.{func_code};
 
 use crate::declared::DeclaredFunc;
 use crate::parted::Parted;
-use ca_base::{KindOf, ReadError, Refusal, Seq, Window, read_each};
+use ca_base::{KindOf, ReadError, Refusal, Window, read_each};
 use std::alloc::Global;
+use syntax_trees::{Func, Seq};
 use wasm_code_reader::{ModuleWhy, PlacedBody, read_all_locals, read_body};
-use wasm_module::{Func, FuncPlaces};
+use wasm_typing::FuncPlaces;
 
 /// Reads what the size of a function's code tells the length of: its locals and its body.
 #[tactic(auto, unfolding(crate::specs::Code::func_code))]

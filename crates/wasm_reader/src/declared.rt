@@ -1,11 +1,11 @@
 //! What is read of a module before its tree is made.
 
 use crate::parted::Parted;
-use ca_base::{Placed, Seq};
-use wasm_module::{
-    DataPlaces, DataSegment, ElementPlaces, ElementSegment, Export, Func, FuncPlaces, FuncType,
-    Global, GlobalPlaces, Import, MemoryType, TableType,
-};
+use ca_base::Placed;
+use syntax_trees::module::Export;
+use syntax_trees::module_types::FuncType;
+use syntax_trees::{DataSegment, ElementSegment, Func, Global, Import, MemoryType, Seq, TableType};
+use wasm_typing::{DataPlaces, ElementPlaces, FuncPlaces, GlobalPlaces};
 
 /// A function as the function section declares it.
 #[derive(Clone, Copy)]

@@ -4,10 +4,11 @@ ghost use Rattle.ca_base.specs.Grammar.{Reads, MayRead};
 ghost use Rattle.wasm_reader.specs.Items.{import_of, export_of};
 
 use crate::declared::DeclaredFunc;
-use ca_base::{Kind, Name, ReadError, Refusal, Window};
+use ca_base::{Kind, ReadError, Refusal, Window};
 use std::alloc::Global;
+use syntax_trees::module::Export;
+use syntax_trees::{ExportDesc, Import, ImportDesc, Name};
 use wasm_code_reader::{GlobalTypes, Memories, ModuleWhy, Tables, refused_byte};
-use wasm_module::{Export, ExportDesc, Import, ImportDesc};
 
 /// Reads what an import asks for.
 #[tactic(auto, unfolding(crate::specs::Items::import_of))]

@@ -2,8 +2,8 @@
 
 ghost use Rattle.std.specs.Prelude.{◌≡◌, IfOk, map};
 
-use ca_base::Seq;
 use std::alloc::{AllocError, Global};
+use syntax_trees::Seq;
 
 /// A part of a module, and its places.
 #[derive(Drop)]

@@ -4,15 +4,15 @@ ghost use Rattle.std.specs.Prelude.{◌≡◌, ◌<◌, ◌+◌, ◌^◌, length
 ghost use Rattle.ca_base.specs.Grammar.{MayRead};
 ghost use Rattle.ca_base.specs.declared.refusal.Refusal.{Refusal};
 ghost use Rattle.wasm_code_reader.specs.declared.fault.ModuleWhy.{ModuleWhy};
-ghost use Rattle.wasm_module.specs.declared.module.ModuleParts.{ModuleParts};
-ghost use Rattle.ca_base.specs.declared.memory.MemoryOr.TheVariants.{Memory, Fault};
+ghost use Rattle.wasm_typing.specs.declared.module_places.ModuleParts.{ModuleParts};
+ghost use Rattle.faults.specs.declared.memory.MemoryOr.TheVariants.{Memory, Fault};
 ghost use Rattle.wasm_reader.specs.Binary.{the_module, file, file_end, IsModule, IsRefused};
 
 use crate::whole::read_the_module;
 use ca_base::{ReadError, Window};
 use std::alloc::Global;
 use wasm_code_reader::ModuleWhy;
-use wasm_module::Module;
+use wasm_typing::Module;
 
 /// Reads the bytes of a core module, whose first byte stands at the place `base` of its file.
 ///

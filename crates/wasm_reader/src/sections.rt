@@ -14,9 +14,10 @@ use crate::declared::{Contents, Declarations, DeclaredFunc, Definitions, Uses};
 use crate::items::{DeclaredFuncs, Exports, Imports};
 use crate::segments::{DataCount, Elements, Globals};
 use ca_base::{
-    Kind, KindOf, PlacedOf, ReadError, Refusal, Seq, VecOf, Window, read_section, read_sized_of,
+    Kind, KindOf, PlacedOf, ReadError, Refusal, VecOf, Window, read_section, read_sized_of,
 };
 use std::alloc::Global;
+use syntax_trees::Seq;
 use wasm_code_reader::{FuncTypes, Indices, Memories, ModuleWhy, Tables, refused_byte};
 
 /// Skips custom sections.

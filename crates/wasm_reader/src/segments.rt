@@ -5,12 +5,11 @@ ghost use Rattle.ca_base.specs.Grammar.{Reads, MayRead};
 ghost use Rattle.wasm_reader.specs.Items.{target, element_kind, byte_vec, differs_from, data_payload};
 
 use crate::parted::Parted;
-use ca_base::{
-    Bytes, Kind, KindOf, PlacedOf, ReadError, Refusal, Seq, Window, apart, read_times, read_vec,
-};
+use ca_base::{Kind, KindOf, PlacedOf, ReadError, Refusal, Window, apart, read_times, read_vec};
 use std::alloc::Global as Heap;
+use syntax_trees::{Bytes, DataSegment, ElementSegment, Global, Seq};
 use wasm_code_reader::{GlobalTypes, Indices, ModuleWhy, read_const_expr, refused_byte};
-use wasm_module::{DataPlaces, DataSegment, ElementPlaces, ElementSegment, Global, GlobalPlaces};
+use wasm_typing::{DataPlaces, ElementPlaces, GlobalPlaces};
 
 /// Globals (Core 2.0, section 5.5.9).
 pub(crate) struct Globals;

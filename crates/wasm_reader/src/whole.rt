@@ -9,12 +9,16 @@ ghost use Rattle.wasm_reader.specs.Binary.{the_module, module_of, items_of, plac
 use crate::declared::{Contents, Declarations, Definitions, Uses};
 use crate::parted::parts_and_places;
 use crate::sections::{read_contents, read_declarations, read_definitions, read_uses};
-use ca_base::{Placed, ReadError, Seq, Window, apart};
+use ca_base::{Placed, ReadError, Window, apart};
 use std::alloc::{AllocError, Global};
+use syntax_trees::module::Export;
+use syntax_trees::module_types::FuncType;
+use syntax_trees::{
+    DataSegment, ElementSegment, Func, Import, MemoryType, ModuleTree, Seq, TableType,
+};
 use wasm_code_reader::ModuleWhy;
-use wasm_module::{
-    DataPlaces, DataSegment, ElementPlaces, ElementSegment, Export, Func, FuncPlaces, FuncType,
-    GlobalPlaces, Import, MemoryType, Module, ModuleParts, ModulePlaces, ModuleTree, TableType,
+use wasm_typing::{
+    DataPlaces, ElementPlaces, FuncPlaces, GlobalPlaces, Module, ModuleParts, ModulePlaces,
 };
 
 /// The preamble of a module: its magic number and its version.
@@ -61,7 +65,7 @@ struct DefinedParts {
     table_places: Seq<usize>,
     memories: Seq<MemoryType>,
     memory_places: Seq<usize>,
-    globals: Seq<wasm_module::Global>,
+    globals: Seq<syntax_trees::Global>,
     global_places: Seq<GlobalPlaces>,
 }
 

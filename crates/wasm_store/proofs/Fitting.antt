@@ -4,11 +4,11 @@ use Rattle.std.specs.List.{slice_get}
 use Rattle.std.specs.Result.{IfOk, OnErr}
 use Rattle.std.proofs.lemmas.List.{map-set}
 use Rattle.std.proofs.lemmas.Option.{get_or_from_slice_get}
-use Rattle.ca_base.specs.declared.memory.Memory.{Memory}
-use Rattle.wasm_module.specs.declared.instr.Instr.{Instr}
-use Rattle.wasm_module.specs.declared.instr.Instr.TheVariants as instr
-use Rattle.wasm_module.specs.declared.instr.LoadOp.{LoadOp}
-use Rattle.wasm_module.specs.declared.instr.MemArg.{MemArg}
+use Rattle.faults.specs.declared.memory.Memory.{Memory}
+use Rattle.syntax_trees.specs.declared.instr.Instr.{Instr}
+use Rattle.syntax_trees.specs.declared.instr.Instr.TheVariants as instr
+use Rattle.syntax_trees.specs.declared.instr.LoadOp.{LoadOp}
+use Rattle.syntax_trees.specs.declared.instr.MemArg.{MemArg}
 use Rattle.wasm_memory.specs.Memories.{MemoryState}
 use Rattle.wasm_store.specs.declared.trap.Trap.{Trap}
 use Rattle.wasm_store.specs.Store.{Global, Instance, Store, memory_at, global_at}

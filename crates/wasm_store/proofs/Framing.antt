@@ -2,11 +2,11 @@
 use Rattle.std.proofs.Common.{◌≡◌, ℕ, zero, suc, nat_le, List, [], ◌∷◌, ◌++◌, length, map, reverse, take, drop, refl, ap, ap₂, sym, ◌∙◌, subst, Option, Some, None, append_assoc, append-nil}
 use Rattle.std.specs.List.{slice_get}
 use Rattle.std.proofs.lemmas.List.{length-reverse}
-use Rattle.wasm_module.specs.declared.types.ValType.{ValType}
-use Rattle.wasm_module.specs.declared.types.FuncType.{FuncType}
-use Rattle.wasm_module.specs.declared.types.Locals.{Locals}
-use Rattle.wasm_module.specs.Expr.{Expr}
-use Rattle.wasm_module.specs.Locals.{declared_locals, local_types}
+use Rattle.syntax_trees.specs.declared.module_types.ValType.{ValType}
+use Rattle.syntax_trees.specs.declared.module_types.FuncType.{FuncType}
+use Rattle.syntax_trees.specs.declared.module_types.Locals.{Locals}
+use Rattle.syntax_trees.specs.Expr.{Expr}
+use Rattle.syntax_trees.specs.Locals.{declared_locals, local_types}
 use Rattle.wasm_typing.specs.Context.{Context}
 use Rattle.wasm_typing.specs.Typing.{Operands, AllMatch, operands_of, Takes, TypedFrom}
 use Rattle.wasm_numbers.specs.Types.{AreWords}

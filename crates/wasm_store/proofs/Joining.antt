@@ -1,8 +1,8 @@
 -- The parts of a module, and functions of the host, behind those of a store.
 use Rattle.std.proofs.Common.{◌≡◌, List, ◌∷◌, [], ◌++◌, map, refl, sym, subst}
 use Rattle.std.proofs.lemmas.List.{map-append}
-use Rattle.wasm_module.specs.declared.types.FuncType.{FuncType}
-use Rattle.wasm_module.specs.declared.module.ModuleTree.{ModuleTree}
+use Rattle.syntax_trees.specs.declared.module_types.FuncType.{FuncType}
+use Rattle.syntax_trees.specs.declared.module.ModuleTree.{ModuleTree}
 use Rattle.wasm_typing.specs.Modules.{Typed}
 use Rattle.wasm_memory.specs.Memories.{MemoryState}
 use Rattle.wasm_store.specs.Store.{Store, Function}

@@ -5,16 +5,16 @@ use Rattle.std.specs.Option.{option_map, option_and_then}
 use Rattle.std.specs.Int.{w32, w64}
 use Rattle.std.proofs.lemmas.List.{reverse-append, length-reverse}
 use Rattle.std.proofs.lemmas.Bool.Decides.{nat_tests}
-use Rattle.wasm_module.specs.declared.types.ValType.{ValType}
-use Rattle.wasm_module.specs.declared.types.ValType.TheVariants.{I32, I64}
-use Rattle.wasm_module.specs.declared.types.FuncType.{FuncType}
-use Rattle.wasm_module.specs.declared.types.GlobalType.{GlobalType}
-use Rattle.wasm_module.specs.declared.types.Mutability.{Mutability}
-use Rattle.wasm_module.specs.declared.types.Mutability.TheVariants.{Constant, Variable}
-use Rattle.wasm_module.specs.declared.instr.BlockType.{BlockType}
-use Rattle.wasm_module.specs.declared.instr.Instr.{Instr}
-use Rattle.wasm_module.specs.declared.instr.Instr.TheVariants as instr
-use Rattle.wasm_module.specs.Expr.{Expr, End, Plain, Block, Loop, If, IfElse}
+use Rattle.syntax_trees.specs.declared.module_types.ValType.{ValType}
+use Rattle.syntax_trees.specs.declared.module_types.ValType.TheVariants.{I32, I64}
+use Rattle.syntax_trees.specs.declared.module_types.FuncType.{FuncType}
+use Rattle.syntax_trees.specs.declared.module_types.GlobalType.{GlobalType}
+use Rattle.syntax_trees.specs.declared.module_types.Mutability.{Mutability}
+use Rattle.syntax_trees.specs.declared.module_types.Mutability.TheVariants.{Constant, Variable}
+use Rattle.syntax_trees.specs.declared.instr.BlockType.{BlockType}
+use Rattle.syntax_trees.specs.declared.instr.Instr.{Instr}
+use Rattle.syntax_trees.specs.declared.instr.Instr.TheVariants as instr
+use Rattle.syntax_trees.specs.Expr.{Expr, End, Plain, Block, Loop, If, IfElse}
 use Rattle.wasm_typing.specs.Context.{Context, arrow, params as block_params, results as block_results}
 use Rattle.wasm_typing.specs.Instrs.{numeric_type, load_gives, store_takes, func_type, where_there, has_memory, select_type, unless, is_constant, is_constant_global, is_forbidden}
 use Rattle.wasm_typing.specs.Typing.{Operands, Matches, AllMatch, operands_of, Takes, Turns, GoesTo, Applies, TypedFrom}
@@ -30,7 +30,7 @@ use Rattle.wasm_store.specs.Typed.{HasContext, EntryTyped, TableTyped, GlobalTyp
 use Rattle.wasm_store.specs.Laws.{MoveTyped, MovesTyped, NeverStuck, StartsTyped}
 use Rattle.wasm_store.proofs.Lists.{both_true, all_at, found_there}
 use Rattle.wasm_store.proofs.Words.{as_long, rest_below, under_words}
-use Rattle.wasm_module.specs.Locals.{local_types}
+use Rattle.syntax_trees.specs.Locals.{local_types}
 use Rattle.wasm_store.proofs.Operands.{taken_known, known_match}
 use Rattle.wasm_store.proofs.Stores.{store_same, further}
 use Rattle.wasm_store.proofs.Effecting.{EffectTyped, one_left, numeric_typed, selected_typed, local_get_typed, local_set_typed, local_tee_typed, global_set_typed, load_typed, store_typed, size_typed, grow_typed, fill_typed, copy_typed}

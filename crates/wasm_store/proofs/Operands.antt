@@ -1,6 +1,6 @@
 -- Operands of known types, and those that are taken from them.
 use Rattle.std.proofs.Common.{◌≡◌, List, [], ◌∷◌, ◌++◌, refl, ap, ap₂, sym, subst, Option, Some}
-use Rattle.wasm_module.specs.declared.types.ValType.{ValType}
+use Rattle.syntax_trees.specs.declared.module_types.ValType.{ValType}
 use Rattle.wasm_typing.specs.Typing.{Operands, Matches, AllMatch, Takes}
 use Rattle.wasm_store.specs.Typed.{known}
 

@@ -1,7 +1,7 @@
 -- Moves that cost nothing end: each takes a label from the frame that runs, or that frame from the stack.
 use Rattle.std.proofs.Common.{◌≡◌, ◌≢◌, ℕ, suc, false, List, [], ◌∷◌, refl, ap, sym, ◌∙◌, subst, arith, Option, Some, None}
 use Rattle.std.specs.List.{slice_get}
-use Rattle.wasm_module.specs.Expr.{Expr}
+use Rattle.syntax_trees.specs.Expr.{Expr}
 use Rattle.wasm_store.specs.Store.{Instance, Store}
 use Rattle.wasm_store.specs.Stack.{Label, Frame, Stack, Running, AtHost, Given}
 use Rattle.wasm_store.specs.Step.{Move, Goes, Calls, Ends, Stuck, with_more, returned, ended, move_at, move_in, next, Moves}

@@ -6,8 +6,8 @@ use Rattle.std.proofs.lemmas.Nat.{mod_below, pow_pos}
 use mir.Val.{bits}
 use Rattle.std.proofs.lemmas.List.{reverse-append, reverse-reverse}
 use Rattle.std.proofs.Math.Seq.{take-append_seam, drop-append_seam}
-use Rattle.wasm_module.specs.declared.types.ValType.{ValType}
-use Rattle.wasm_module.specs.declared.types.ValType.TheVariants.{I32, I64}
+use Rattle.syntax_trees.specs.declared.module_types.ValType.{ValType}
+use Rattle.syntax_trees.specs.declared.module_types.ValType.TheVariants.{I32, I64}
 use Rattle.wasm_numbers.specs.Types.{IsWord, AreWords}
 
 -- words of types in two parts

@@ -3,13 +3,13 @@ use Rattle.std.specs.Prelude.{◌≡◌, ◌⊎◌, ℕ, List, Option}
 use Rattle.std.specs.Coded.{Coded, code_by, coded_ℕ, coded_list, coded_option, coded×, coded⊎}
 use mathlib.Core.Path.{refl}
 use mathlib.Core.Logic.{inl, inr}
-use Rattle.wasm_module.specs.contracts.types.FuncType as func_type
-use Rattle.wasm_module.specs.contracts.types.GlobalType as global_type
-use Rattle.wasm_module.specs.contracts.types.Locals as locals
-use Rattle.wasm_module.specs.declared.types.FuncType.{FuncType}
-use Rattle.wasm_module.specs.declared.types.GlobalType.{GlobalType}
-use Rattle.wasm_module.specs.declared.types.Locals.{Locals}
-use Rattle.wasm_module.specs.Expr.{Expr, expr_code}
+use Rattle.syntax_trees.specs.contracts.module_types.FuncType as func_type
+use Rattle.syntax_trees.specs.contracts.module_types.GlobalType as global_type
+use Rattle.syntax_trees.specs.contracts.module_types.Locals as locals
+use Rattle.syntax_trees.specs.declared.module_types.FuncType.{FuncType}
+use Rattle.syntax_trees.specs.declared.module_types.GlobalType.{GlobalType}
+use Rattle.syntax_trees.specs.declared.module_types.Locals.{Locals}
+use Rattle.syntax_trees.specs.Expr.{Expr, expr_code}
 use Rattle.wasm_memory.specs.contracts.memory.LinearMemory as memory
 use Rattle.wasm_memory.specs.Memories.{MemoryState}
 use Rattle.wasm_store.specs.Store.{Function, Own, Host, Table, Global, Instance, Store}

@@ -6,10 +6,10 @@ use Rattle.std.specs.List.{slice_get}
 use Rattle.std.specs.Option.{option_map}
 use Rattle.std.specs.Int.{Width as Bits, w32, w64, cast_unsigned}
 use mir.Val.{bits}
-use Rattle.wasm_module.specs.declared.instr.Instr.{Instr}
-use Rattle.wasm_module.specs.declared.instr.Instr.TheVariants as instr
-use Rattle.wasm_module.specs.declared.instr.LoadOp.{LoadOp}
-use Rattle.wasm_module.specs.declared.instr.StoreOp.{StoreOp}
+use Rattle.syntax_trees.specs.declared.instr.Instr.{Instr}
+use Rattle.syntax_trees.specs.declared.instr.Instr.TheVariants as instr
+use Rattle.syntax_trees.specs.declared.instr.LoadOp.{LoadOp}
+use Rattle.syntax_trees.specs.declared.instr.StoreOp.{StoreOp}
 use Rattle.wasm_numbers.specs.declared.trap.NumberTrap.{NumberTrap}
 use Rattle.wasm_numbers.specs.declared.trap.NumberTrap.TheVariants as number_trap
 use Rattle.wasm_numbers.specs.Stack.{applied}

@@ -1,10 +1,10 @@
 -- What an instruction needs of a store, of locals and of values (Core 2.0, section 4.4): its operands are there, words of
 -- their types, and what it makes of the store is typed.
 use Rattle.std.specs.Prelude.{◌≡◌, ℕ, Bool, true, false, List, [], ◌∷◌, ◌++◌, reverse, Option, Some, None}
-use Rattle.wasm_module.specs.declared.types.ValType.{ValType}
-use Rattle.wasm_module.specs.declared.types.ValType.TheVariants.{I32}
-use Rattle.wasm_module.specs.declared.instr.Instr.{Instr}
-use Rattle.wasm_module.specs.declared.instr.Instr.TheVariants as instr
+use Rattle.syntax_trees.specs.declared.module_types.ValType.{ValType}
+use Rattle.syntax_trees.specs.declared.module_types.ValType.TheVariants.{I32}
+use Rattle.syntax_trees.specs.declared.instr.Instr.{Instr}
+use Rattle.syntax_trees.specs.declared.instr.Instr.TheVariants as instr
 use Rattle.wasm_typing.specs.Instrs.{store_takes}
 use Rattle.wasm_numbers.specs.Types.{IsWord, AreWords, operand_types}
 use Rattle.wasm_store.specs.declared.trap.Trap.{Trap}

@@ -4,17 +4,17 @@ use Rattle.std.specs.Prelude.{◌≡◌, ◌≤◌, ◌+◌, ℕ, nat_le, if◌t
 use Rattle.std.specs.List.{slice_get, flat_map, range_with_len, AllByRecursion, AllZip}
 use Rattle.std.specs.Option.{option_and_then, option_map, IfSome, IsSomeAnd}
 use Rattle.std.specs.Int.{w32, w64}
-use Rattle.wasm_module.specs.declared.types.FuncType.{FuncType}
-use Rattle.wasm_module.specs.declared.types.Limits.{Limits}
-use Rattle.wasm_module.specs.declared.instr.ConstInstr.{ConstInstr}
-use Rattle.wasm_module.specs.declared.instr.ConstInstr.TheVariants as const
-use Rattle.wasm_module.specs.declared.module.ImportDesc.{ImportDesc}
-use Rattle.wasm_module.specs.declared.module.ImportDesc.TheVariants as import
-use Rattle.wasm_module.specs.declared.module.Func.{Func}
-use Rattle.wasm_module.specs.declared.module.Global.{Global as ModuleGlobal}
-use Rattle.wasm_module.specs.declared.module.ElementSegment.{ElementSegment}
-use Rattle.wasm_module.specs.declared.module.DataSegment.{DataSegment}
-use Rattle.wasm_module.specs.declared.module.ModuleTree.{ModuleTree}
+use Rattle.syntax_trees.specs.declared.module_types.FuncType.{FuncType}
+use Rattle.syntax_trees.specs.declared.module_types.Limits.{Limits}
+use Rattle.syntax_trees.specs.declared.instr.ConstInstr.{ConstInstr}
+use Rattle.syntax_trees.specs.declared.instr.ConstInstr.TheVariants as const
+use Rattle.syntax_trees.specs.declared.module.ImportDesc.{ImportDesc}
+use Rattle.syntax_trees.specs.declared.module.ImportDesc.TheVariants as import
+use Rattle.syntax_trees.specs.declared.module.Func.{Func}
+use Rattle.syntax_trees.specs.declared.module.Global.{Global as ModuleGlobal}
+use Rattle.syntax_trees.specs.declared.module.ElementSegment.{ElementSegment}
+use Rattle.syntax_trees.specs.declared.module.DataSegment.{DataSegment}
+use Rattle.syntax_trees.specs.declared.module.ModuleTree.{ModuleTree}
 use Rattle.wasm_typing.specs.Context.{found_type}
 use Rattle.wasm_memory.specs.Bytes.{is_inside, put}
 use Rattle.wasm_memory.specs.Memories.{MemoryState, most_pages, page_count, made, with_bytes}

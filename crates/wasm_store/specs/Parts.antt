@@ -1,9 +1,9 @@
 -- What a module brings to a store (Core 2.0, section 4.5.3): its parts, and the store with them; and segments that are written
 -- one by one.
 use Rattle.std.specs.Prelude.{◌≡◌, ℕ, Bool, true, false, List, ◌∷◌, [], map, length, Option, Some, None, Result, Ok, Err}
-use Rattle.wasm_module.specs.declared.module.ModuleTree.{ModuleTree}
+use Rattle.syntax_trees.specs.declared.module.ModuleTree.{ModuleTree}
 use Rattle.std.specs.List.{slice_get, AllByRecursion}
-use Rattle.wasm_module.specs.declared.module.ElementSegment.{ElementSegment}
+use Rattle.syntax_trees.specs.declared.module.ElementSegment.{ElementSegment}
 use Rattle.wasm_store.specs.Store.{Instance, Store}
 use Rattle.wasm_store.specs.Typed.{EntryTyped}
 use Rattle.wasm_store.specs.Instantiation.{External as Address, Instantiation, SegmentBounds, InRange, imported_globals, instance_of, new_func, new_table, new_memory, new_global, all_written}

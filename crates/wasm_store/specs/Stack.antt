@@ -1,7 +1,7 @@
 -- Stacks (Core 2.0, section 4.2.14): a function that runs, and those that called it. A list of values has the last one
 -- first, a list of labels or frames the innermost.
 use Rattle.std.specs.Prelude.{ℕ, List, Option}
-use Rattle.wasm_module.specs.Expr.{Expr}
+use Rattle.syntax_trees.specs.Expr.{Expr}
 
 -- a block, a loop, an `if` or a whole body that is being run
 pub record Label : Type 0 where

@@ -4,10 +4,10 @@
 use Rattle.std.specs.Prelude.{ℕ, List, Option, Some, None}
 use Rattle.std.specs.List.{slice_get}
 use Rattle.std.specs.Option.{option_map}
-use Rattle.wasm_module.specs.declared.types.FuncType.{FuncType}
-use Rattle.wasm_module.specs.declared.types.GlobalType.{GlobalType}
-use Rattle.wasm_module.specs.declared.types.Locals.{Locals}
-use Rattle.wasm_module.specs.Expr.{Expr}
+use Rattle.syntax_trees.specs.declared.module_types.FuncType.{FuncType}
+use Rattle.syntax_trees.specs.declared.module_types.GlobalType.{GlobalType}
+use Rattle.syntax_trees.specs.declared.module_types.Locals.{Locals}
+use Rattle.syntax_trees.specs.Expr.{Expr}
 use Rattle.wasm_memory.specs.Memories.{MemoryState}
 
 -- a function (section 4.2.6)

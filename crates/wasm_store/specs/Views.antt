@@ -2,8 +2,8 @@
 use Rattle.std.specs.Prelude.{ℕ, List, [], ◌∷◌, Option, Some, None}
 use Rattle.std.specs.List.{slice_get}
 use Rattle.wasm_typing.specs.Context.{found_type}
-use Rattle.wasm_module.specs.declared.types.FuncType.{FuncType}
-use Rattle.wasm_module.specs.declared.module.Func.{Func}
+use Rattle.syntax_trees.specs.declared.module_types.FuncType.{FuncType}
+use Rattle.syntax_trees.specs.declared.module.Func.{Func}
 use Rattle.wasm_store.specs.Store.{Function, Own, Host, Table, Global, Instance}
 use Rattle.wasm_store.specs.Instantiation.{External as Address, FuncAddress, TableAddress, MemoryAddress, GlobalAddress, func_address, table_address, memory_address, global_address}
 use Rattle.wasm_store.specs.declared.function.FunctionInstance.{FunctionInstance}

@@ -2,7 +2,7 @@
 
 ghost use Rattle.std.specs.Prelude.{◌≡◌, ◌∷◌, [], ℕ, List, true, if◌then◌else◌, reverse, is_ok, None, Some, IfOk, OnErr, ◌<◌, vec_len, vec_capacity};
 ghost use Rattle.std.specs.List.{slice_get};
-ghost use Rattle.wasm_module.specs.declared.types.ValType.TheVariants.{I32};
+ghost use Rattle.syntax_trees.specs.declared.module_types.ValType.TheVariants.{I32};
 ghost use Rattle.wasm_typing.specs.Instrs.{store_takes};
 ghost use Rattle.wasm_store.specs.declared.trap.Trap.TheVariants.{MemoryBounds};
 ghost use Rattle.wasm_store.specs.Store as machine;
@@ -10,10 +10,10 @@ ghost use Rattle.wasm_store.specs.Effects.{Leaves, with_memory, effect, load, st
 ghost use Rattle.wasm_store.specs.Fits.{EndWith, Gives, accesses_memory, told_types};
 
 use crate::trap::Trap;
-use ca_base::Memory;
+use faults::Memory;
+use syntax_trees::{Instr, LoadOp, StoreOp};
 use wasm_code::operands::{pop, push, put};
 use wasm_memory::{LinearMemory, OutOfBounds};
-use wasm_module::{Instr, LoadOp, StoreOp};
 
 /// Takes the last operand, an `i32`. There is room for another one.
 #[inline]

@@ -13,11 +13,11 @@ use crate::addresses::address_at;
 use crate::function::FunctionInstance;
 use crate::parts::Parts;
 use crate::store::Store;
-use ca_base::Memory;
+use faults::Memory;
 use std::alloc::{AllocError, Global};
+use syntax_trees::module_types::FuncType;
 use thiserror::Error;
 use wasm_code::External;
-use wasm_module::FuncType;
 use wasm_typing::Valid;
 
 /// Why a module has no instance.

@@ -4,7 +4,7 @@ ghost use Rattle.std.specs.Prelude.{◌≡◌};
 ghost use Rattle.wasm_store.specs.Instantiation.{const_value, init_value};
 
 use crate::store::Store;
-use wasm_module::ConstInstr;
+use syntax_trees::ConstInstr;
 
 impl Store {
     /// The value of a constant expression over globals of these addresses.

@@ -12,8 +12,8 @@ use crate::parametric::{discard, select};
 use crate::store::Store;
 use crate::trap::Trap;
 use crate::variables::{global_get, global_set, local_get, local_set, local_tee};
-use ca_base::Memory;
-use wasm_module::Instr;
+use faults::Memory;
+use syntax_trees::Instr;
 
 impl Store {
     /// Makes an instruction of an instance over locals and operands, the last one at the end. The answer is its trap, if any.

@@ -7,10 +7,10 @@ ghost use Rattle.wasm_store.specs.Store.{type_of};
 ghost use Rattle.wasm_store.specs.Step.{same_signature};
 ghost use Rattle.wasm_store.specs.Views.{function_of};
 
-use ca_base::Seq;
 use std::rc::Rc;
+use syntax_trees::module_types::{FuncType, ValType};
+use syntax_trees::{DeclaredLocals, Seq, are_same};
 use wasm_code::Code;
-use wasm_module::{DeclaredLocals, FuncType, ValType, are_same};
 
 /// A function of an instance (Core 2.0, section 4.2.6).
 #[derive(Drop)]

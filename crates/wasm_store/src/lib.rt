@@ -8,8 +8,7 @@
 //! - `adding`: instances of modules; `matching`: imports, compared with what a module asks for; `parts`: what a module brings;
 //!   `constants`, `segments`: the values of constant expressions, and segments that are written
 //! - `effects`: instructions; `numbers`, `parametric`: those over operands alone; `variables`: those of locals and globals;
-//!   `accesses`: those of memories
-//! - `addresses`: what an instance's indices mean
+//!   `accesses`: those of memories; `addresses`: what an instance's indices mean
 #![tactic(auto)]
 
 mod accesses;

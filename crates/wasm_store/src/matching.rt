@@ -2,14 +2,15 @@
 
 ghost use Rattle.std.specs.Prelude.{◌≡◌, true, false, cond, map};
 ghost use Rattle.std.specs.List.{slice_get};
-ghost use Rattle.wasm_module.specs.SameTypes.{same_type};
+ghost use Rattle.syntax_trees.specs.SameTypes.{same_type};
 ghost use Rattle.wasm_store.specs.Instantiation.{ImportsMatch};
 ghost use Rattle.wasm_store.specs.Views.{address_of};
 ghost use Rattle.wasm_store.specs.Matching.{func_fits, max_fits, limits_fit, table_fits, memory_fits, same_mutability, global_fits, import_fits, imports_fit};
 
 use crate::store::Store;
+use syntax_trees::module_types::FuncType;
+use syntax_trees::{GlobalType, Import, ImportDesc, Limits, Mutability};
 use wasm_code::External;
-use wasm_module::{FuncType, GlobalType, Import, ImportDesc, Limits, Mutability};
 use wasm_typing::Valid;
 
 impl Store {

@@ -8,9 +8,9 @@ ghost use Rattle.wasm_store.specs.Effects.{word_of, trap_of, by_number};
 ghost use Rattle.wasm_store.specs.Fits.{Gives};
 
 use crate::trap::Trap;
-use ca_base::Memory;
+use faults::Memory;
+use syntax_trees::NumericOp;
 use wasm_code::operands::push;
-use wasm_module::NumericOp;
 use wasm_numbers::{NumberTrap, apply};
 
 /// Puts a constant on top.

@@ -11,12 +11,12 @@ ghost use Rattle.wasm_store.specs.Parts.{ArePartsOf};
 
 use crate::function::{FunctionInstance, OwnFunction};
 use crate::store::Store;
-use ca_base::Seq;
 use std::alloc::{AllocError, Global};
 use std::rc::Rc;
+use syntax_trees::module_types::FuncType;
+use syntax_trees::{Func, MemoryType, ModuleTree, Seq, TableType};
 use wasm_code::{Code, External, GlobalInstance, ModuleInstance, Sort, TableInstance, copy_types};
 use wasm_memory::LinearMemory;
-use wasm_module::{Func, FuncType, MemoryType, ModuleTree, TableType};
 
 /// What a module brings to a store, in order.
 #[derive(Drop)]
@@ -144,7 +144,7 @@ fn memory_with(alloc: Global, memory_type: MemoryType) -> Result<LinearMemory, A
 fn globals_of(
     alloc: Global,
     store: &Store,
-    globals: &[wasm_module::Global],
+    globals: &[syntax_trees::Global],
     imports: &[External],
 ) -> Result<Vec<GlobalInstance>, AllocError>
     ensures { IfOk result (λ v. map global_of v.items ≡ map (new_global store.now (imported_globals (map address_of imports.now))) globals.now) }

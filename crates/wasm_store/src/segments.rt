@@ -12,8 +12,8 @@ ghost use Rattle.wasm_store.specs.Parts.{Written, WrittenOne, IsBounds, Elements
 use crate::adding::AddFault;
 use crate::addresses::address_at;
 use crate::store::Store;
+use syntax_trees::{ConstInstr, DataSegment, ElementSegment};
 use wasm_memory::LinearMemory;
-use wasm_module::{ConstInstr, DataSegment, ElementSegment};
 
 impl Store {
     /// Writes segments of functions of an instance one after the other, up to one that does not fit.

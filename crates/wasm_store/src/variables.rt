@@ -6,7 +6,7 @@ ghost use Rattle.wasm_store.specs.Store as machine;
 ghost use Rattle.wasm_store.specs.Effects.{Leaves, local_get, local_set, local_tee, global_get, global_set};
 ghost use Rattle.wasm_store.specs.Views.{global_of};
 
-use ca_base::Memory;
+use faults::Memory;
 use wasm_code::GlobalInstance;
 use wasm_code::operands::{pop, push, put};
 

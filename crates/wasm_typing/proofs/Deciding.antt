@@ -1,6 +1,6 @@
 -- The first fault of a module decides whether it is typed.
 use Rattle.std.proofs.Common.{◌≡◌, ◌∙◌, sym, Some, None}
-use Rattle.wasm_module.specs.declared.module.ModuleTree.{ModuleTree}
+use Rattle.syntax_trees.specs.declared.module.ModuleTree.{ModuleTree}
 use Rattle.wasm_typing.specs.declared.fault.Fault.{Fault}
 use Rattle.wasm_typing.specs.Modules.{Typed}
 use Rattle.wasm_typing.specs.Untyped.{items}

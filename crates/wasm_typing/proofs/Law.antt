@@ -3,8 +3,8 @@ use Rattle.std.proofs.Common.{◌≡◌, ◌<◌, ℕ, zero, suc, Bool, true, fa
 use Rattle.std.specs.Prelude.{◌⊎◌, ◌||◌}
 use Rattle.std.proofs.lemmas.Bool.Decides.{nat_tests}
 use Rattle.std.proofs.lemmas.List.{length-replicate}
-use Rattle.wasm_module.specs.declared.types.ValType.{ValType}
-use Rattle.wasm_module.specs.declared.instr.Op.{Op}
+use Rattle.syntax_trees.specs.declared.module_types.ValType.{ValType}
+use Rattle.syntax_trees.specs.declared.instr.Op.{Op}
 use Rattle.wasm_typing.specs.declared.why.ValidWhy.{ValidWhy}
 use Rattle.wasm_typing.specs.declared.why.ValidWhy.TheVariants.{Index, Label, Align, Stack, Typing, Name, Limit}
 use Rattle.wasm_typing.specs.declared.fault.PartFault.{PartFault}

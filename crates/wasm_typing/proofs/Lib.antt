@@ -9,3 +9,4 @@ pub mod Sections
 pub mod Singles
 pub mod Steps
 pub mod Trees
+pub mod Running

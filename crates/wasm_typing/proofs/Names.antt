@@ -2,14 +2,14 @@
 use Rattle.std.proofs.Common.{◌≡◌, ℕ, ◌+◌, ◌<◌, List, [], length, map, take, drop, get_or, Option, Err, Bor, refl, ap, ◌∙◌, arith, length-take-le}
 use Rattle.std.specs.Option.{option_or}
 use Rattle.std.specs.BTreeSet.{BTreeSet}
-use Rattle.ca_base.specs.Faults.{first_in, MayFind}
-use Rattle.ca_base.specs.declared.memory.MemoryOr.{MemoryOr}
-use Rattle.ca_base.specs.declared.memory.MemoryOr.TheVariants as or
-use Rattle.ca_base.specs.Names.{has, is_among}
-use Rattle.ca_base.proofs.Seen.{take_one, drop_one}
-use Rattle.wasm_module.specs.declared.module.Export.{Export}
-use Rattle.wasm_module.specs.declared.module.ModuleTree.{ModuleTree}
-use Rattle.wasm_module.specs.declared.spot.Spot.TheVariants as spot
+use Rattle.faults.specs.Faults.{first_in, MayFind}
+use Rattle.faults.specs.declared.memory.MemoryOr.{MemoryOr}
+use Rattle.faults.specs.declared.memory.MemoryOr.TheVariants as or
+use Rattle.syntax_trees.specs.Names.{has, is_among}
+use Rattle.syntax_trees.proofs.Seen.{take_one, drop_one}
+use Rattle.syntax_trees.specs.declared.module.Export.{Export}
+use Rattle.syntax_trees.specs.declared.module.ModuleTree.{ModuleTree}
+use Rattle.wasm_typing.specs.declared.spot.Spot.TheVariants as spot
 use Rattle.wasm_typing.specs.declared.fault.Fault.{Fault}
 use Rattle.wasm_typing.specs.Items.{at_spot, export_why, export_fault}
 

@@ -4,21 +4,21 @@ use Rattle.std.specs.Prelude.{not, nat_lt, is_none, is_some, ◌⊎◌}
 use Rattle.std.specs.List.{slice_get}
 use Rattle.std.specs.Option.{option_or, option_map, option_and_then, IsSome}
 use Rattle.std.proofs.lemmas.Option.{slice_get_within, slice_get-map}
-use Rattle.ca_base.specs.Faults.{first_in, IfFault}
-use Rattle.ca_base.specs.declared.memory.MemoryOr.{MemoryOr}
-use Rattle.ca_base.specs.declared.memory.MemoryOr.TheVariants as or
-use Rattle.wasm_module.specs.declared.types.ValType.{ValType}
-use Rattle.wasm_module.specs.declared.types.ValType.TheVariants.{I32}
-use Rattle.wasm_module.specs.declared.types.GlobalType.{GlobalType}
-use Rattle.wasm_module.specs.declared.instr.ConstInstr.{ConstInstr}
-use Rattle.wasm_module.specs.declared.module.ModuleTree.{ModuleTree}
-use Rattle.wasm_module.specs.declared.module.ModulePlaces.{ModulePlaces}
-use Rattle.wasm_module.specs.declared.module.ModuleParts.{ModuleParts}
-use Rattle.wasm_module.specs.Places.{Fits}
-use Rattle.wasm_module.specs.Expr.{op_count}
+use Rattle.faults.specs.Faults.{first_in, IfFault}
+use Rattle.faults.specs.declared.memory.MemoryOr.{MemoryOr}
+use Rattle.faults.specs.declared.memory.MemoryOr.TheVariants as or
+use Rattle.syntax_trees.specs.declared.module_types.ValType.{ValType}
+use Rattle.syntax_trees.specs.declared.module_types.ValType.TheVariants.{I32}
+use Rattle.syntax_trees.specs.declared.module_types.GlobalType.{GlobalType}
+use Rattle.syntax_trees.specs.declared.instr.ConstInstr.{ConstInstr}
+use Rattle.syntax_trees.specs.declared.module.ModuleTree.{ModuleTree}
+use Rattle.wasm_typing.specs.declared.module_places.ModulePlaces.{ModulePlaces}
+use Rattle.wasm_typing.specs.declared.module_places.ModuleParts.{ModuleParts}
+use Rattle.wasm_typing.specs.Places.{Fits}
+use Rattle.syntax_trees.specs.Expr.{op_count}
 use Rattle.wasm_typing.specs.declared.why.ValidWhy.{ValidWhy}
-use Rattle.wasm_module.specs.declared.spot.Spot.{Spot}
-use Rattle.wasm_module.specs.declared.spot.Spot.TheVariants as spot
+use Rattle.wasm_typing.specs.declared.spot.Spot.{Spot}
+use Rattle.wasm_typing.specs.declared.spot.Spot.TheVariants as spot
 use Rattle.wasm_typing.specs.declared.fault.Fault.{Fault}
 use Rattle.wasm_typing.specs.declared.fault.PartFault.{PartFault}
 use Rattle.wasm_typing.specs.declared.fault.ValidFault.{ValidFault}

@@ -1,9 +1,9 @@
 -- What the rules know of a module and of one of its functions (Core 2.0, section 3.1.1).
 use Rattle.std.specs.Prelude.{ℕ, List}
-use Rattle.wasm_module.specs.declared.types.ValType.{ValType}
-use Rattle.wasm_module.specs.declared.types.FuncType.{FuncType}
-use Rattle.wasm_module.specs.declared.types.GlobalType.{GlobalType}
-pub use Rattle.wasm_module.specs.BlockTypes.{arrow, block_type, no_block_type, found_type, params, results}
+use Rattle.syntax_trees.specs.declared.module_types.ValType.{ValType}
+use Rattle.syntax_trees.specs.declared.module_types.FuncType.{FuncType}
+use Rattle.syntax_trees.specs.declared.module_types.GlobalType.{GlobalType}
+pub use Rattle.syntax_trees.specs.BlockTypes.{arrow, block_type, no_block_type, found_type, params, results}
 
 pub record Context : Type 0 where
   -- the module's types

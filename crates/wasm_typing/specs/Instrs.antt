@@ -3,18 +3,18 @@
 use Rattle.std.specs.Prelude.{ℕ, Bool, true, false, nat_lt, List, [], ◌∷◌, ◌++◌, Option, Some, None}
 use Rattle.std.specs.List.{slice_get}
 use Rattle.std.specs.Option.{option_map, option_and_then}
-use Rattle.wasm_module.specs.declared.types.ValType.{ValType}
-use Rattle.wasm_module.specs.declared.types.ValType.TheVariants.{I32, I64}
-use Rattle.wasm_module.specs.declared.types.FuncType.{FuncType}
-use Rattle.wasm_module.specs.declared.types.GlobalType.{GlobalType}
-use Rattle.wasm_module.specs.declared.types.Mutability.{Mutability}
-use Rattle.wasm_module.specs.declared.types.Mutability.TheVariants.{Constant, Variable}
-use Rattle.wasm_module.specs.declared.instr.NumericOp.{NumericOp}
-use Rattle.wasm_module.specs.declared.instr.NumericOp.TheVariants.{Eqz, Relation, Unary, Binary, WrapI64, ExtendI32S, ExtendI32U, I64Extend32S}
-use Rattle.wasm_module.specs.declared.instr.Instr.{Instr}
-use Rattle.wasm_module.specs.declared.instr.Instr.TheVariants as instr
+use Rattle.syntax_trees.specs.declared.module_types.ValType.{ValType}
+use Rattle.syntax_trees.specs.declared.module_types.ValType.TheVariants.{I32, I64}
+use Rattle.syntax_trees.specs.declared.module_types.FuncType.{FuncType}
+use Rattle.syntax_trees.specs.declared.module_types.GlobalType.{GlobalType}
+use Rattle.syntax_trees.specs.declared.module_types.Mutability.{Mutability}
+use Rattle.syntax_trees.specs.declared.module_types.Mutability.TheVariants.{Constant, Variable}
+use Rattle.syntax_trees.specs.declared.instr.NumericOp.{NumericOp}
+use Rattle.syntax_trees.specs.declared.instr.NumericOp.TheVariants.{Eqz, Relation, Unary, Binary, WrapI64, ExtendI32S, ExtendI32U, I64Extend32S}
+use Rattle.syntax_trees.specs.declared.instr.Instr.{Instr}
+use Rattle.syntax_trees.specs.declared.instr.Instr.TheVariants as instr
 use Rattle.wasm_typing.specs.Context.{Context, arrow}
-pub use Rattle.wasm_module.specs.Accesses.{integer, load_gives, load_width, store_takes, store_width}
+pub use Rattle.syntax_trees.specs.Accesses.{integer, load_gives, load_width, store_takes, store_width}
 
 -- numeric instructions
 abbrev pub numeric_type : NumericOp → FuncType

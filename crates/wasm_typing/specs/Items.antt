@@ -3,33 +3,33 @@
 use Rattle.std.specs.Prelude.{◌+◌, ℕ, Bool, true, false, not, ◌&&◌, nat_lt, nat_le, is_none, List, [], ◌∷◌, length, map, Option, Some, None}
 use Rattle.std.specs.List.{slice_get}
 use Rattle.std.specs.Option.{option_or, option_map}
-use Rattle.ca_base.specs.Names.{is_among}
-use Rattle.wasm_module.specs.declared.types.ValType.{ValType}
-use Rattle.wasm_module.specs.declared.types.ValType.TheVariants.{I32}
-use Rattle.wasm_module.specs.declared.types.FuncType.{FuncType}
-use Rattle.wasm_module.specs.declared.types.Limits.{Limits}
-use Rattle.wasm_module.specs.declared.types.GlobalType.{GlobalType}
-use Rattle.wasm_module.specs.declared.instr.ConstInstr.{ConstInstr}
-use Rattle.wasm_module.specs.declared.instr.ConstInstr.TheVariants as const
-use Rattle.wasm_module.specs.declared.module.ImportDesc.{ImportDesc}
-use Rattle.wasm_module.specs.declared.module.ImportDesc.TheVariants as import
-use Rattle.wasm_module.specs.declared.module.Import.{Import}
-use Rattle.wasm_module.specs.declared.module.ExportDesc.{ExportDesc}
-use Rattle.wasm_module.specs.declared.module.Export.{Export}
-use Rattle.wasm_module.specs.declared.module.Func.{Func}
-use Rattle.wasm_module.specs.declared.module.Global.{Global}
-use Rattle.wasm_module.specs.declared.module.ElementSegment.{ElementSegment}
-use Rattle.wasm_module.specs.declared.module.DataSegment.{DataSegment}
-use Rattle.wasm_module.specs.declared.module.ModuleTree.{ModuleTree}
+use Rattle.syntax_trees.specs.Names.{is_among}
+use Rattle.syntax_trees.specs.declared.module_types.ValType.{ValType}
+use Rattle.syntax_trees.specs.declared.module_types.ValType.TheVariants.{I32}
+use Rattle.syntax_trees.specs.declared.module_types.FuncType.{FuncType}
+use Rattle.syntax_trees.specs.declared.module_types.Limits.{Limits}
+use Rattle.syntax_trees.specs.declared.module_types.GlobalType.{GlobalType}
+use Rattle.syntax_trees.specs.declared.instr.ConstInstr.{ConstInstr}
+use Rattle.syntax_trees.specs.declared.instr.ConstInstr.TheVariants as const
+use Rattle.syntax_trees.specs.declared.module.ImportDesc.{ImportDesc}
+use Rattle.syntax_trees.specs.declared.module.ImportDesc.TheVariants as import
+use Rattle.syntax_trees.specs.declared.module.Import.{Import}
+use Rattle.syntax_trees.specs.declared.module.ExportDesc.{ExportDesc}
+use Rattle.syntax_trees.specs.declared.module.Export.{Export}
+use Rattle.syntax_trees.specs.declared.module.Func.{Func}
+use Rattle.syntax_trees.specs.declared.module.Global.{Global}
+use Rattle.syntax_trees.specs.declared.module.ElementSegment.{ElementSegment}
+use Rattle.syntax_trees.specs.declared.module.DataSegment.{DataSegment}
+use Rattle.syntax_trees.specs.declared.module.ModuleTree.{ModuleTree}
 use Rattle.wasm_typing.specs.declared.why.ValidWhy.{ValidWhy}
 use Rattle.wasm_typing.specs.declared.why.ValidWhy.TheVariants as why
-use Rattle.wasm_module.specs.declared.spot.Spot.{Spot}
-use Rattle.wasm_module.specs.declared.spot.Spot.TheVariants as spot
+use Rattle.wasm_typing.specs.declared.spot.Spot.{Spot}
+use Rattle.wasm_typing.specs.declared.spot.Spot.TheVariants as spot
 use Rattle.wasm_typing.specs.declared.fault.Fault.{Fault}
 use Rattle.wasm_typing.specs.declared.fault.PartFault.{PartFault}
 use Rattle.wasm_typing.specs.Checking.{same_type, part_fault}
 use Rattle.wasm_typing.specs.Instrs.{is_constant}
-pub use Rattle.wasm_module.specs.Spaces.{is_there}
+pub use Rattle.wasm_typing.specs.Spaces.{is_there}
 use Rattle.wasm_typing.specs.Modules.{imported_tables, imported_memories, imported_globals, func_space, table_count, memory_count, type_of_func, entry_limit, page_limit, const_type}
 
 abbrev pub fault : Spot → ValidWhy → Fault

@@ -1,8 +1,8 @@
 -- What the first fault of a module has to do with its typing (Core 2.0, section 3).
 use Rattle.std.specs.Prelude.{◌≡◌, ◌↔◌, ◌⊎◌, Some, None}
-use Rattle.wasm_module.specs.declared.module.ModuleTree.{ModuleTree}
-use Rattle.wasm_module.specs.declared.module.ModulePlaces.{ModulePlaces}
-use Rattle.wasm_module.specs.Places.{Fits}
+use Rattle.syntax_trees.specs.declared.module.ModuleTree.{ModuleTree}
+use Rattle.wasm_typing.specs.declared.module_places.ModulePlaces.{ModulePlaces}
+use Rattle.wasm_typing.specs.Places.{Fits}
 use Rattle.wasm_typing.specs.declared.fault.ValidFault.{ValidFault}
 use Rattle.wasm_typing.specs.declared.fault.Fault.{Fault}
 use Rattle.wasm_typing.specs.Modules.{Typed}

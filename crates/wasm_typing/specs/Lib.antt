@@ -8,3 +8,7 @@ pub mod Laws
 pub mod Modules
 pub mod Typing
 pub mod Untyped
+pub mod Places
+pub mod Runs
+pub mod Spaces
+pub mod Spots

@@ -2,27 +2,27 @@
 use Rattle.std.specs.Prelude.{◌≡◌, ◌<◌, ◌≤◌, ℕ, List, [], ◌∷◌, length, map, Option, Some, None}
 use Rattle.std.specs.List.{slice_get, AllByRecursion}
 use Rattle.std.specs.Option.{IfSome, IsSome, option_and_then}
-use Rattle.ca_base.specs.Names.{AreDistinct}
-use Rattle.wasm_module.specs.declared.types.ValType.{ValType}
-use Rattle.wasm_module.specs.declared.types.ValType.TheVariants.{I32, I64}
-use Rattle.wasm_module.specs.declared.types.FuncType.{FuncType}
-use Rattle.wasm_module.specs.declared.types.Limits.{Limits}
-use Rattle.wasm_module.specs.declared.types.GlobalType.{GlobalType}
-use Rattle.wasm_module.specs.declared.types.Mutability.{Mutability}
-use Rattle.wasm_module.specs.declared.types.Mutability.TheVariants.{Constant, Variable}
-use Rattle.wasm_module.specs.declared.instr.ConstInstr.{ConstInstr}
-use Rattle.wasm_module.specs.declared.instr.ConstInstr.TheVariants as const
-use Rattle.wasm_module.specs.declared.module.ImportDesc.{ImportDesc}
-use Rattle.wasm_module.specs.declared.module.ImportDesc.TheVariants as import
-use Rattle.wasm_module.specs.declared.module.ExportDesc.{ExportDesc}
-use Rattle.wasm_module.specs.declared.module.ExportDesc.TheVariants as export
-use Rattle.wasm_module.specs.declared.module.Func.{Func}
-use Rattle.wasm_module.specs.declared.module.Global.{Global}
-use Rattle.wasm_module.specs.declared.module.ElementSegment.{ElementSegment}
-use Rattle.wasm_module.specs.declared.module.DataSegment.{DataSegment}
-use Rattle.wasm_module.specs.declared.module.ModuleTree.{ModuleTree}
-use Rattle.wasm_module.specs.Locals.{local_types}
-pub use Rattle.wasm_module.specs.Spaces.{funcs_of, tables_of, memories_of, globals_of, imported_funcs, imported_tables, imported_memories, imported_globals, func_space, table_count, memory_count, global_space, type_of_func}
+use Rattle.syntax_trees.specs.Names.{AreDistinct}
+use Rattle.syntax_trees.specs.declared.module_types.ValType.{ValType}
+use Rattle.syntax_trees.specs.declared.module_types.ValType.TheVariants.{I32, I64}
+use Rattle.syntax_trees.specs.declared.module_types.FuncType.{FuncType}
+use Rattle.syntax_trees.specs.declared.module_types.Limits.{Limits}
+use Rattle.syntax_trees.specs.declared.module_types.GlobalType.{GlobalType}
+use Rattle.syntax_trees.specs.declared.module_types.Mutability.{Mutability}
+use Rattle.syntax_trees.specs.declared.module_types.Mutability.TheVariants.{Constant, Variable}
+use Rattle.syntax_trees.specs.declared.instr.ConstInstr.{ConstInstr}
+use Rattle.syntax_trees.specs.declared.instr.ConstInstr.TheVariants as const
+use Rattle.syntax_trees.specs.declared.module.ImportDesc.{ImportDesc}
+use Rattle.syntax_trees.specs.declared.module.ImportDesc.TheVariants as import
+use Rattle.syntax_trees.specs.declared.module.ExportDesc.{ExportDesc}
+use Rattle.syntax_trees.specs.declared.module.ExportDesc.TheVariants as export
+use Rattle.syntax_trees.specs.declared.module.Func.{Func}
+use Rattle.syntax_trees.specs.declared.module.Global.{Global}
+use Rattle.syntax_trees.specs.declared.module.ElementSegment.{ElementSegment}
+use Rattle.syntax_trees.specs.declared.module.DataSegment.{DataSegment}
+use Rattle.syntax_trees.specs.declared.module.ModuleTree.{ModuleTree}
+use Rattle.syntax_trees.specs.Locals.{local_types}
+pub use Rattle.wasm_typing.specs.Spaces.{funcs_of, tables_of, memories_of, globals_of, imported_funcs, imported_tables, imported_memories, imported_globals, func_space, table_count, memory_count, global_space, type_of_func}
 use Rattle.wasm_typing.specs.Context.{Context}
 use Rattle.wasm_typing.specs.Typing.{BodyTyped}
 

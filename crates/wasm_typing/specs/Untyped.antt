@@ -2,21 +2,21 @@
 -- sections 3.4 and 5.5), where it stands, and why.
 use Rattle.std.specs.Prelude.{◌≡◌, ℕ, List, [], ◌∷◌, ◌++◌, length, Option, Some, None}
 use Rattle.std.specs.List.{slice_get, AllByRecursion}
-use Rattle.wasm_module.specs.declared.types.FuncType.{FuncType}
-use Rattle.wasm_module.specs.declared.types.Limits.{Limits}
-use Rattle.wasm_module.specs.declared.instr.BlockType.TheVariants.{TypeIndex}
-use Rattle.wasm_module.specs.declared.module.Import.{Import}
-use Rattle.wasm_module.specs.declared.module.Export.{Export}
-use Rattle.wasm_module.specs.declared.module.Func.{Func}
-use Rattle.wasm_module.specs.declared.module.Global.{Global}
-use Rattle.wasm_module.specs.declared.module.ElementSegment.{ElementSegment}
-use Rattle.wasm_module.specs.declared.module.DataSegment.{DataSegment}
-use Rattle.wasm_module.specs.declared.module.ModuleTree.{ModuleTree}
-use Rattle.wasm_module.specs.declared.module.ModulePlaces.{ModulePlaces}
-pub use Rattle.wasm_module.specs.Spots.{place_of}
+use Rattle.syntax_trees.specs.declared.module_types.FuncType.{FuncType}
+use Rattle.syntax_trees.specs.declared.module_types.Limits.{Limits}
+use Rattle.syntax_trees.specs.declared.instr.BlockType.TheVariants.{TypeIndex}
+use Rattle.syntax_trees.specs.declared.module.Import.{Import}
+use Rattle.syntax_trees.specs.declared.module.Export.{Export}
+use Rattle.syntax_trees.specs.declared.module.Func.{Func}
+use Rattle.syntax_trees.specs.declared.module.Global.{Global}
+use Rattle.syntax_trees.specs.declared.module.ElementSegment.{ElementSegment}
+use Rattle.syntax_trees.specs.declared.module.DataSegment.{DataSegment}
+use Rattle.syntax_trees.specs.declared.module.ModuleTree.{ModuleTree}
+use Rattle.wasm_typing.specs.declared.module_places.ModulePlaces.{ModulePlaces}
+pub use Rattle.wasm_typing.specs.Spots.{place_of}
 use Rattle.wasm_typing.specs.declared.why.ValidWhy.{ValidWhy}
-use Rattle.wasm_module.specs.declared.spot.Spot.{Spot}
-use Rattle.wasm_module.specs.declared.spot.Spot.TheVariants as spot
+use Rattle.wasm_typing.specs.declared.spot.Spot.{Spot}
+use Rattle.wasm_typing.specs.declared.spot.Spot.TheVariants as spot
 use Rattle.wasm_typing.specs.declared.fault.Fault.{Fault}
 use Rattle.wasm_typing.specs.Typing.{BodyTyped}
 use Rattle.wasm_typing.specs.Faults.{BodyStops}

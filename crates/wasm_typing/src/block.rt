@@ -3,7 +3,8 @@
 ghost use Rattle.std.specs.Prelude.{◌≡◌};
 ghost use Rattle.wasm_typing.specs.Faults.{label_in};
 
-use wasm_module::{BlockType, FuncType, ValType};
+use syntax_trees::BlockType;
+use syntax_trees::module_types::{FuncType, ValType};
 
 /// What a block is, as far as its label and its end tell (Core 2.0, sections 3.3.8 and 3.4.1).
 #[derive(Clone, Copy)]

@@ -1,18 +1,18 @@
 //! Rules on the items of a section.
 
 ghost use Rattle.std.specs.Prelude.{◌≡◌, []};
-ghost use Rattle.ca_base.specs.Faults.{first_in, MayFind};
+ghost use Rattle.faults.specs.Faults.{first_in, MayFind};
 
 use crate::fault::Fault;
-use ca_base::{MemoryOr, Rule, check_all};
+use crate::space::Space;
+use faults::{MemoryOr, Rule, check_all};
 use std::alloc::Global;
 use std::marker::PhantomData;
-use wasm_module::Space;
 
 /// An item of a module with a rule on it, bodies of functions left out (Core 2.0, section 3.4).
 pub trait Checked {
     ghost use Rattle.std.specs.Prelude.{List, Option};
-    ghost use Rattle.wasm_module.specs.declared.module.ModuleTree.{ModuleTree};
+    ghost use Rattle.syntax_trees.specs.declared.module.ModuleTree.{ModuleTree};
     ghost use Rattle.wasm_typing.specs.declared.fault.Fault.{Fault};
 
     /// The fault of an item of a module, behind those before it in its section.

@@ -7,7 +7,8 @@ ghost use Rattle.wasm_typing.specs.Modules.{const_type};
 
 use crate::fault::PartFault;
 use crate::why::ValidWhy;
-use wasm_module::{ConstInstr, GlobalType, Mutability, ValType};
+use syntax_trees::module_types::ValType;
+use syntax_trees::{ConstInstr, GlobalType, Mutability};
 
 /// Why an instruction is wrong over these imported globals.
 fn const_why(imported: &[GlobalType], instr: ConstInstr) -> Option<ValidWhy>

@@ -9,8 +9,10 @@ ghost use Rattle.wasm_typing.specs.Faults.{label_of};
 ghost use Rattle.wasm_typing.specs.Instrs.{func_type, has_memory};
 
 use crate::block::{BlockKind, label};
+use crate::local_runs::LocalTypes;
 use std::marker::Model;
-use wasm_module::{BlockType, FuncType, GlobalType, LocalTypes, ValType};
+use syntax_trees::module_types::{FuncType, ValType};
+use syntax_trees::{BlockType, GlobalType};
 
 /// What the rules know of a module and of one of its functions (Core 2.0, section 3.1.1).
 #[derive(Drop)]

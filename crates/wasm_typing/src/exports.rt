@@ -3,16 +3,20 @@
 ghost use Rattle.std.specs.Prelude.{◌≡◌, ℕ, List, ◌||◌, OnOk, []};
 ghost use Rattle.std.specs.Option.{option_map};
 ghost use Rattle.std.specs.Str.{bytes_eq};
-ghost use Rattle.ca_base.specs.Faults.{first_in, MayFind};
-ghost use Rattle.ca_base.specs.Names.{has};
+ghost use Rattle.faults.specs.Faults.{first_in, MayFind};
+ghost use Rattle.syntax_trees.specs.Names.{has};
 ghost use Rattle.wasm_typing.specs.Items.{at_spot, export_why, export_fault, is_start, start_fault};
 
 use crate::fault::Fault;
+use crate::space::Space;
+use crate::spot::Spot;
 use crate::why::ValidWhy;
-use ca_base::{MemoryOr, adds};
+use faults::MemoryOr;
 use std::alloc::Global;
 use std::collections::BTreeSet;
-use wasm_module::{Export, FuncType, Space, Spot};
+use syntax_trees::adds;
+use syntax_trees::module::Export;
+use syntax_trees::module_types::FuncType;
 
 /// The error of a part.
 fn wrong(spot: Spot, why: ValidWhy) -> MemoryOr<Fault>

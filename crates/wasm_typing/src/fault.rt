@@ -2,9 +2,9 @@
 
 ghost use Rattle.std.specs.Prelude.{◌≡◌};
 
+use crate::spot::Spot;
 use crate::why::ValidWhy;
 use thiserror::Error;
-use wasm_module::Spot;
 
 /// A part of a module that is wrong, and how.
 #[derive(Clone, Copy, Debug, Error)]

@@ -7,11 +7,10 @@ ghost use Rattle.wasm_typing.specs.Items.{at_spot, where_so, limits_fit, limits_
 use crate::checked::Checked;
 use crate::consts::const_fault;
 use crate::fault::Fault;
+use crate::space::{Space, imported_memories, imported_tables};
+use crate::spot::Spot;
 use crate::why::ValidWhy;
-use wasm_module::{
-    Func, Global, Import, ImportDesc, Limits, MemoryType, Space, Spot, TableType,
-    imported_memories, imported_tables,
-};
+use syntax_trees::{Func, Global, Import, ImportDesc, Limits, MemoryType, TableType};
 
 /// The largest number of entries that a table may have (Core 2.0, section 3.2.4).
 const ENTRY_LIMIT: u32 = 4_294_967_295;

@@ -1,14 +1,15 @@
 //! Where the faults of a module stand.
 
 ghost use Rattle.std.specs.Prelude.{◌≡◌, ℕ, ◌^◌, ◌≤◌, Some, MatchResult, IsSome};
-ghost use Rattle.ca_base.specs.Faults.{IfFault};
+ghost use Rattle.faults.specs.Faults.{IfFault};
 ghost use Rattle.wasm_typing.specs.Untyped.{place_of, func_of};
 ghost use Rattle.wasm_typing.specs.Finding.{told};
 
 use crate::fault::{Fault, ValidFault};
-use ca_base::MemoryOr;
+use crate::module_places::ModulePlaces;
+use crate::spot::{Spot, place_of};
+use faults::MemoryOr;
 use std::num::TryFromIntError;
-use wasm_module::{ModulePlaces, Spot, place_of};
 
 /// The function in whose body a part stands. It fails where its number is 2^32 or more.
 fn func_of(spot: Spot) -> Result<Option<u32>, TryFromIntError>

@@ -1,15 +1,18 @@
 //! The rules on segments (Core 2.0, sections 3.4.5 and 3.4.6).
 
 ghost use Rattle.std.specs.Prelude.{◌≡◌};
-ghost use Rattle.wasm_module.specs.declared.types.ValType.TheVariants.{I32};
+ghost use Rattle.syntax_trees.specs.declared.module_types.ValType.TheVariants.{I32};
 ghost use Rattle.wasm_typing.specs.Items.{const_fault, funcs_fault};
 ghost use Rattle.wasm_typing.specs.Modules.{imported_globals};
 
 use crate::checked::Checked;
 use crate::consts::const_fault;
 use crate::fault::{Fault, PartFault};
+use crate::space::Space;
+use crate::spot::Spot;
 use crate::why::ValidWhy;
-use wasm_module::{ConstInstr, DataSegment, ElementSegment, Space, Spot, ValType};
+use syntax_trees::module_types::ValType;
+use syntax_trees::{ConstInstr, DataSegment, ElementSegment};
 
 /// The first fault of a segment's offset, which is an `i32`.
 fn offset_fault(space: &Space, offset: &[ConstInstr]) -> Option<PartFault>

@@ -4,7 +4,7 @@ ghost use Rattle.std.specs.Prelude.{◌≡◌};
 ghost use Rattle.wasm_typing.specs.Modules.{Typed};
 
 use std::marker::Model;
-use wasm_module::ModuleTree;
+use syntax_trees::ModuleTree;
 
 /// A module that is typed. Contracts see its tree.
 #[derive(Drop)]
@@ -13,8 +13,8 @@ pub struct Valid {
 }
 
 impl Model for Valid {
-    ghost use Rattle.wasm_module.specs.declared.module.ModuleTree.{ModuleTree};
-    ghost use Rattle.wasm_module.specs.contracts.module.ModuleTree as contract;
+    ghost use Rattle.syntax_trees.specs.declared.module.ModuleTree.{ModuleTree};
+    ghost use Rattle.syntax_trees.specs.contracts.module.ModuleTree as contract;
     ghost use Rattle.wasm_typing.specs.Modules.{Typed};
 
     ghost Value = { ModuleTree };

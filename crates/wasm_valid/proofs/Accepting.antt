@@ -2,8 +2,8 @@
 use Rattle.std.proofs.Common.{◌≡◌, ℕ, zero, suc, Bool, true, false, List, [], ◌∷◌, ◌++◌, length, drop, reverse, refl, ap, ap₂, sym, ◌∙◌, subst, Some, None, Option, arith, take, ◌≤◌, ◌+◌, ◌-◌}
 use Rattle.std.specs.Prelude.{is_some}
 use Rattle.std.proofs.lemmas.List.{reverse-append, length-reverse, length-drop}
-use Rattle.wasm_module.specs.declared.types.ValType.{ValType}
-use Rattle.wasm_module.specs.declared.types.ValType.TheVariants.{I32}
+use Rattle.syntax_trees.specs.declared.module_types.ValType.{ValType}
+use Rattle.syntax_trees.specs.declared.module_types.ValType.TheVariants.{I32}
 use Rattle.wasm_typing.specs.Context.{arrow}
 use Rattle.wasm_typing.specs.Typing.{Operands, operands_of}
 use Rattle.wasm_typing.specs.Checking.{Known, known, control, if_so, may_be, taken, taken_all, given, turned}

@@ -1,6 +1,6 @@
 -- The check, item by item.
 use Rattle.std.proofs.Common.{◌≡◌, ◌<◌, ◌≤◌, ◌+◌, ℕ, zero, suc, List, [], ◌∷◌, length, get_or, drop, refl, ap, sym, ◌∙◌, Some, None, Option, arith, add-one, drop-cons}
-use Rattle.wasm_module.specs.declared.instr.Op.{Op}
+use Rattle.syntax_trees.specs.declared.instr.Op.{Op}
 use Rattle.wasm_typing.specs.declared.why.ValidWhy.{ValidWhy}
 use Rattle.wasm_typing.specs.declared.fault.PartFault.{PartFault}
 use Rattle.wasm_valid.specs.declared.body.Stepped.TheVariants.{Stops, Goes, Ends}

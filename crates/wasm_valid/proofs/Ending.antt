@@ -1,7 +1,7 @@
 -- The ends of blocks and of the first parts of `if`, as the checker goes over them.
 use Rattle.std.proofs.Common.{◌≡◌, Bool, true, false, List, [], ◌∷◌, ◌++◌, reverse, refl, ap, ap₂, sym, ◌∙◌, subst, Some, None, Option, append-nil}
-use Rattle.wasm_module.specs.declared.types.ValType.{ValType}
-use Rattle.wasm_module.specs.declared.instr.BlockType.{BlockType}
+use Rattle.syntax_trees.specs.declared.module_types.ValType.{ValType}
+use Rattle.syntax_trees.specs.declared.instr.BlockType.{BlockType}
 use Rattle.wasm_typing.specs.declared.block.BlockKind.{BlockKind}
 use Rattle.wasm_typing.specs.declared.block.BlockKind.TheVariants as block
 use Rattle.wasm_valid.specs.declared.body.Stepped.TheVariants.{Stops, Goes, Ends}

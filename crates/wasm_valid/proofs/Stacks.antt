@@ -7,8 +7,8 @@ use Rattle.std.specs.Option.{option_map}
 use Rattle.std.proofs.lemmas.List.{reverse-append, length-reverse, length-drop, get_or-reverse, length-map, take-append-drop, drop-take}
 use Rattle.std.proofs.lemmas.Option.{slice_get-map, slice_get-get_or, slice_get_past}
 use Rattle.std.proofs.Math.Seq.{drop-append_seam}
-use Rattle.wasm_module.specs.declared.types.ValType.{ValType}
-use Rattle.wasm_module.specs.declared.instr.BlockType.{BlockType}
+use Rattle.syntax_trees.specs.declared.module_types.ValType.{ValType}
+use Rattle.syntax_trees.specs.declared.instr.BlockType.{BlockType}
 use Rattle.wasm_typing.specs.declared.block.BlockKind.{BlockKind}
 use Rattle.wasm_valid.specs.declared.open_block.OpenBlock.{OpenBlock}
 use Rattle.wasm_typing.specs.Context.{Context}

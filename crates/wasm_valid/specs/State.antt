@@ -1,10 +1,10 @@
 -- The state of a checker: the innermost open block, and those around it.
 use Rattle.std.specs.Prelude.{◌≡◌, ◌≤◌, ℕ, Bool, true, false, List, [], ◌∷◌, reverse, take, drop, Option, Some, None}
-use Rattle.wasm_module.specs.declared.types.ValType.{ValType}
-use Rattle.wasm_module.specs.declared.instr.BlockType.{BlockType}
+use Rattle.syntax_trees.specs.declared.module_types.ValType.{ValType}
+use Rattle.syntax_trees.specs.declared.instr.BlockType.{BlockType}
 use Rattle.wasm_typing.specs.declared.block.BlockKind.{BlockKind}
 use Rattle.wasm_valid.specs.declared.open_block.OpenBlock.{OpenBlock}
-use Rattle.wasm_module.specs.declared.types.FuncType.{FuncType}
+use Rattle.syntax_trees.specs.declared.module_types.FuncType.{FuncType}
 use Rattle.wasm_valid.specs.declared.stacking.Access.{Access}
 use Rattle.wasm_valid.specs.declared.stacking.Access.TheVariants.{Get, Set, Tee}
 use Rattle.wasm_typing.specs.Context.{Context, arrow}

@@ -8,7 +8,8 @@ ghost use Rattle.wasm_valid.specs.State.{all_of, GoesOn, Closed, Bare, opened_in
 
 use crate::checker::Checker;
 use std::alloc::AllocError;
-use wasm_module::{BlockType, Op, ValType, are_same};
+use syntax_trees::module_types::ValType;
+use syntax_trees::{BlockType, Op, are_same};
 use wasm_typing::{BlockKind, Context};
 
 /// What an item of flat code leads to.

@@ -1,16 +1,19 @@
 //! Whether a module is valid (Core 2.0, section 3).
 
 ghost use Rattle.std.specs.Prelude.{◌≡◌, IfOk, IfErr, Some};
-ghost use Rattle.ca_base.specs.Faults.{IfFault, MayFind};
+ghost use Rattle.faults.specs.Faults.{IfFault, MayFind};
 ghost use Rattle.wasm_typing.specs.Finding.{first_fault, untyped};
 ghost use Rattle.wasm_typing.specs.Modules.{Typed};
 ghost use Rattle.wasm_typing.specs.Untyped.{Untyped};
 
 use crate::codes::CodeRule;
-use ca_base::{MemoryOr, check_all};
+use faults::{MemoryOr, check_all};
 use std::alloc::Global;
-use wasm_module::{Module, ModuleParts, ModuleTree, Space};
-use wasm_typing::{Fault, Valid, ValidFault, check_each, check_exports, check_start, told};
+use syntax_trees::ModuleTree;
+use wasm_typing::{
+    Fault, Module, ModuleParts, Space, Valid, ValidFault, check_each, check_exports, check_start,
+    told,
+};
 
 /// Looks for the first fault of a module, section by section.
 fn check_items(alloc: Global, space: &Space) -> Result<(), MemoryOr<Fault>>

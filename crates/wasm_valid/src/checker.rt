@@ -11,7 +11,8 @@ ghost use Rattle.wasm_valid.specs.State.{Turned, Popped, Left, with_top, all_of,
 use crate::open_block::OpenBlock;
 use std::alloc::{AllocError, Global};
 use std::marker::Model;
-use wasm_module::{BlockType, ValType};
+use syntax_trees::BlockType;
+use syntax_trees::module_types::ValType;
 use wasm_typing::{BlockKind, Context};
 
 /// What is known of the operands of open blocks. An operand of which no type is known may have any.

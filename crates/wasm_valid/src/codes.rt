@@ -1,10 +1,10 @@
 //! The bodies of functions, each in the context of its function (Core 2.0, section 3.4.1).
 
 use crate::walk::body_fault;
-use ca_base::{MemoryOr, Rule};
+use faults::{MemoryOr, Rule};
 use std::alloc::Global;
-use wasm_module::{Func, LocalTypes, Space, Spot};
-use wasm_typing::{Context, Fault};
+use syntax_trees::Func;
+use wasm_typing::{Context, Fault, LocalTypes, Space, Spot};
 
 /// Bodies of functions whose types are there.
 #[derive(Drop)]

@@ -1,6 +1,6 @@
 //! Open blocks.
 
-use wasm_module::BlockType;
+use syntax_trees::BlockType;
 use wasm_typing::BlockKind;
 
 /// An open block.

@@ -8,7 +8,7 @@ ghost use Rattle.wasm_typing.specs.Instrs.{numeric_type};
 ghost use Rattle.wasm_valid.specs.State.{all_of};
 
 use crate::checker::Checker;
-use wasm_module::{Instr, NumericOp, Op};
+use syntax_trees::{Instr, NumericOp, Op};
 use wasm_typing::{BlockKind, Context, ValidWhy};
 
 /// Whether an instruction names something that is not there.

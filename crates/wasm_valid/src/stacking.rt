@@ -10,7 +10,8 @@ ghost use Rattle.wasm_valid.specs.State.{Turned, all_of, access_type};
 
 use crate::checker::Checker;
 use std::alloc::AllocError;
-use wasm_module::{Instr, Mutability, NumericOp, ValType};
+use syntax_trees::module_types::ValType;
+use syntax_trees::{Instr, Mutability, NumericOp};
 use wasm_typing::Context;
 
 /// What an instruction does with a local.

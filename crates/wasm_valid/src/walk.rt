@@ -1,14 +1,14 @@
 //! The first fault of a body.
 
 ghost use Rattle.std.specs.Prelude.{◌≡◌, IfOk};
-ghost use Rattle.wasm_module.specs.declared.instr.BlockType.TheVariants.{TypeIndex};
+ghost use Rattle.syntax_trees.specs.declared.instr.BlockType.TheVariants.{TypeIndex};
 ghost use Rattle.wasm_typing.specs.Checking.{body_fault};
 
 use crate::body::Stepped;
 use crate::checker::Checker;
 use crate::reasons::why_behind;
 use std::alloc::{AllocError, Global};
-use wasm_module::{BlockType, Body};
+use syntax_trees::{BlockType, Body};
 use wasm_typing::{Context, PartFault};
 
 /// The first fault of a body whose type has this index. It fails for want of memory alone.

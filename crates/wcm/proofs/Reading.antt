@@ -4,7 +4,7 @@ use Rattle.std.specs.Prelude.{IfOk}
 use Rattle.std.proofs.lemmas.Bool.{lt-ltb}
 use Rattle.std.specs.Option.{IfSome}
 use Rattle.ca_base.specs.declared.refusal.Refusal.{Refusal}
-use Rattle.ca_types.specs.declared.exports.Export.{Export}
+use Rattle.syntax_trees.specs.declared.exports.Export.{Export}
 use Rattle.comp_tree.specs.declared.items.Component.{Component}
 use Rattle.part_reader.specs.declared.fault.ComponentWhy.{ComponentWhy}
 use Rattle.script_reader.specs.declared.fault.ScriptFault.{ScriptFault}

@@ -3,7 +3,7 @@
 -- for the functions that can be called.
 use Rattle.std.specs.Prelude.{◌≡◌, ◌<◌, ◌≤◌, ◌⊎◌, ℕ, true, List, length, Option, IfSome, IsSome}
 use Rattle.ca_base.specs.declared.refusal.Refusal.{Refusal}
-use Rattle.ca_types.specs.declared.exports.Export.{Export}
+use Rattle.syntax_trees.specs.declared.exports.Export.{Export}
 use Rattle.comp_tree.specs.declared.items.Component.{Component}
 use Rattle.part_reader.specs.declared.fault.ComponentWhy.{ComponentWhy}
 use Rattle.part_reader.specs.declared.fault.ComponentWhy.TheVariants.{Limit}

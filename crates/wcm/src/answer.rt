@@ -23,13 +23,13 @@ use answer_texts::{
     accepted_text, graph_text, link_refused_line, refused_line, script_refused_line,
 };
 use builtins::{Run, run_script, trace_text};
-use ca_base::{Bytes, Memory, MemoryOr, Refusal, Seq};
+use ca_base::Refusal;
 use ca_io::{FileError, Files, read_all};
-use ca_types::Exports;
 use command_words::Command;
 use comp_graph::Graph;
 use comp_link::link;
 use comp_reader::{Component, ComponentWhy, read_component};
+use faults::{Memory, MemoryOr};
 use graph_laws::laws::{
     calls_are_sound, counted_graphs_are_plain, files_are_bytes, linked_graphs_are_apart,
     read_graphs_are_sound, read_types_are_counted,
@@ -38,6 +38,7 @@ use graph_laws::only_calls;
 use script_reader::{Script, ScriptFault, ScriptWhy, read_script};
 use std::alloc::{AllocError, Global};
 use sync_items::runs_synchronously;
+use syntax_trees::{Bytes, Exports, Seq};
 use world::dump_text;
 
 /// What a call of the program answers.

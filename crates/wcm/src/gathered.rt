@@ -4,9 +4,9 @@ ghost use Rattle.std.specs.Prelude.{◌≡◌, ◌≤◌, ◌<◌, [], length, t
 ghost use Rattle.ca_io.specs.Bytes.{grown};
 ghost use Rattle.ca_io.specs.Causes.{HasCause};
 
-use ca_base::{Bytes, Seq};
 use ca_io::{Failed, Sink};
 use std::alloc::Global;
+use syntax_trees::{Bytes, Seq};
 
 /// A sink in memory that has room for all that is written while memory lasts.
 #[derive(Drop)]

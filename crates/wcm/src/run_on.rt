@@ -14,8 +14,8 @@ ghost use Rattle.command_words.specs.Words as commands;
 use crate::answer::Answer;
 use crate::gathered::Gathered;
 use crate::status::status_of_run_end;
-use ca_base::{Bytes, Memory, Seq};
 use comp_graph::Graph;
+use faults::Memory;
 use graph_laws::laws::read_modules_are_typed;
 use link_spec::laws::graphs_are_sound;
 use machine_runs::{Ran, RunEnd, run_script, runs_step_on};
@@ -23,6 +23,7 @@ use program_maker::program_of;
 use programs::Program;
 use script_reader::Script;
 use std::alloc::Global;
+use syntax_trees::{Bytes, Seq};
 use trace_show::Trace;
 use value_moves::{ValueMoves, passes_stay_fit};
 

@@ -12,9 +12,9 @@ ghost use Rattle.wcm.specs.Written.{WroteAll, WroteFront, WroteFrontOrLine};
 use crate::answer::{Answer, Stop};
 use crate::asked::answer_to;
 use crate::status::Status;
-use ca_base::MemoryOr;
 use ca_io::{Failed, Files, Sink, write_all};
 use command_words::request_of;
+use faults::MemoryOr;
 use std::alloc::Global;
 
 /// The line for a file that was not read.

@@ -2,9 +2,9 @@
 use Rattle.std.proofs.Common.{◌≡◌, ◌+◌, ℕ, zero, suc, drop, Bool, true, false, nat_eq, nat_lt, List, [], ◌∷◌, length, refl, sym, ap, ◌∙◌, subst, Option, Some, None, Result, Ok, Err, if◌then◌else◌}
 use Rattle.std.specs.List.{slice_get, AllByRecursion}
 use Rattle.std.specs.Option.{option_map, option_and_then, IfSome}
-use Rattle.ca_base.specs.Names.{first_named}
-use Rattle.ca_types.specs.declared.value.Value.{Value}
-use Rattle.ca_types.specs.declared.exports.Export.{Export}
+use Rattle.syntax_trees.specs.Names.{first_named}
+use Rattle.syntax_trees.specs.declared.value.Value.{Value}
+use Rattle.syntax_trees.specs.declared.exports.Export.{Export}
 use Rattle.value_lift.specs.declared.trap.LiftTrap.{LiftTrap}
 use Rattle.value_lower.specs.Plan.{Plan}
 use Rattle.wasm_store.specs.Store.{Function, Own, Host as HostFunction, Store, found_at}
@@ -14,7 +14,7 @@ use Rattle.wasm_store.specs.Step.{Move, Goes, Calls, Traps, start, next}
 use Rattle.wasm_store.specs.Step as core
 use Rattle.wasm_store.specs.Instantiation.{External, Instantiation, Makes, instance_of, instantiated, start_call}
 use Rattle.wasm_store.specs.Instantiation as core_instance
-use Rattle.wasm_module.specs.declared.types.ValType.{ValType}
+use Rattle.syntax_trees.specs.declared.module_types.ValType.{ValType}
 use Rattle.wasm_store.specs.Typed.{StoreTyped}
 use Rattle.wasm_store.specs.Laws.{MoveTyped}
 use Rattle.wasm_store.proofs.Lists.{all_at, found_there}

@@ -4,8 +4,8 @@ use mathlib.Core.List.{reverse_aux}
 use Rattle.std.specs.List.{slice_get}
 use Rattle.std.specs.Option.{option_and_then, IsSome}
 use Rattle.std.proofs.lemmas.Option.{slice_get_within}
-use Rattle.ca_base.specs.Names.{first_named}
-use Rattle.ca_types.specs.declared.exports.Export.{Export}
+use Rattle.syntax_trees.specs.Names.{first_named}
+use Rattle.syntax_trees.specs.declared.exports.Export.{Export}
 use Rattle.comp_graph.specs.declared.graph.CanonFunc.{CanonFunc}
 use Rattle.comp_graph.specs.declared.graph.Lift.{Lift}
 use Rattle.comp_graph.specs.declared.graph.Lower.{Lower}

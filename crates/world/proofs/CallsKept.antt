@@ -2,7 +2,7 @@
 use Rattle.std.proofs.Common.{◌≡◌, ◌⊎◌, inl, inr, ◌<◌, ℕ, zero, suc, Bool, true, List, [], ◌∷◌, ◌++◌, drop, length, refl, sym, ap, ◌∙◌, subst, arith, Option, Some, None, Result, Ok, Err, if◌then◌else◌}
 use Rattle.std.specs.List.{slice_get, AllByRecursion}
 use Rattle.std.specs.Option.{option_map, IsSome}
-use Rattle.wasm_module.specs.declared.types.ValType as core_val
+use Rattle.syntax_trees.specs.declared.module_types.ValType as core_val
 use Rattle.wasm_numbers.specs.Types.{AreWords}
 use Rattle.wasm_store.specs.Stack.{Stack}
 use Rattle.wasm_store.specs.Step.{resume}
@@ -10,9 +10,9 @@ use Rattle.wasm_store.specs.Store.{Store}
 use Rattle.wasm_store.specs.Typed.{StackTyped}
 use Rattle.wasm_store.proofs.Lists.{all_at, all_append}
 use Rattle.wasm_store.proofs.Zips.{get_behind}
-use Rattle.ca_types.specs.declared.types.FuncType.{FuncType}
-use Rattle.ca_types.specs.declared.value.Value.{Value}
-use Rattle.ca_types.specs.declared.value.Value.TheViews as value
+use Rattle.syntax_trees.specs.declared.types.FuncType.{FuncType}
+use Rattle.syntax_trees.specs.declared.value.Value.{Value}
+use Rattle.syntax_trees.specs.declared.value.Value.TheViews as value
 use Rattle.value_lift.specs.declared.trap.LiftTrap.{LiftTrap}
 use Rattle.value_lower.specs.Plan.{Plan}
 use Rattle.lowering_laws.specs.Values.{IsOf, AreBytes}

@@ -1,8 +1,8 @@
 -- What is kept in the moves of core functions, and in instantiation.
 use Rattle.std.proofs.Common.{◌≡◌, ◌⊎◌, inl, inr, ◌+◌, ℕ, zero, suc, List, [], ◌∷◌, ◌++◌, drop, length, refl, sym, ap, ◌∙◌, subst, arith, append_assoc, append-nil, length-append, Option, Some, None}
 use Rattle.std.specs.List.{slice_get, AllByRecursion}
-use Rattle.wasm_module.specs.declared.types.ValType.{ValType}
-use Rattle.wasm_module.specs.declared.types.FuncType as core_type
+use Rattle.syntax_trees.specs.declared.module_types.ValType.{ValType}
+use Rattle.syntax_trees.specs.declared.module_types.FuncType as core_type
 use Rattle.wasm_numbers.specs.Types.{AreWords}
 use Rattle.wasm_typing.specs.Modules.{Typed}
 use Rattle.wasm_store.specs.Store.{Store}

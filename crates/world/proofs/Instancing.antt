@@ -2,7 +2,7 @@
 use Rattle.std.proofs.Common.{◌≡◌, ◌<◌, ◌+◌, ℕ, List, [], ◌∷◌, ◌++◌, length, drop, refl, sym, ap, ◌∙◌, subst, arith, append-nil, Option, Some, None, inl, inr}
 use Rattle.std.specs.List.{slice_get}
 use Rattle.std.proofs.lemmas.Option.{slice_get_within}
-use Rattle.wasm_module.specs.declared.module.ModuleTree.{ModuleTree}
+use Rattle.syntax_trees.specs.declared.module.ModuleTree.{ModuleTree}
 use Rattle.wasm_typing.specs.Modules.{Typed}
 use Rattle.wasm_store.specs.Store.{Store}
 use Rattle.wasm_store.specs.Instantiation.{External, Instantiation, Makes, SegmentBounds, ImportsMatch, InRange, instance_of, instantiated, start_call}

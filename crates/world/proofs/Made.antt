@@ -1,7 +1,7 @@
 -- Core instances that were made: what the instantiation of one more leaves, and what steps leave.
 use Rattle.std.proofs.Common.{◌≡◌, ◌⊎◌, inl, inr, ◌+◌, ℕ, zero, suc, List, [], ◌∷◌, ◌++◌, length, map, refl, sym, ap, ◌∙◌, subst, Some, length-append, append_assoc}
 use Rattle.std.specs.List.{slice_get, AllByRecursion}
-use Rattle.wasm_module.specs.declared.module.ModuleTree.{ModuleTree}
+use Rattle.syntax_trees.specs.declared.module.ModuleTree.{ModuleTree}
 use Rattle.wasm_typing.specs.Modules.{Typed}
 use Rattle.wasm_store.proofs.Lists.{all_append}
 use Rattle.wasm_store.specs.Store.{Instance, Store}
@@ -11,7 +11,7 @@ use Rattle.wasm_store.proofs.Zips.{get_behind}
 use Rattle.wasm_store.proofs.Stores.{further, still}
 use Rattle.wasm_store.proofs.AddedModules.{allocates}
 use Rattle.comp_graph.specs.Graph.{CoreMake, Graph}
-use Rattle.wasm_module.specs.declared.module.Func.{Func}
+use Rattle.syntax_trees.specs.declared.module.Func.{Func}
 use Rattle.wasm_store.specs.Store.{Function}
 use Rattle.wasm_store.specs.Laws.{IsOwn}
 use Rattle.lowering_laws.specs.StoreBytes.{HasBytes, HasBytesAlone}

@@ -2,10 +2,10 @@
 use Rattle.std.proofs.Common.{◌≡◌, ◌<◌, ◌+◌, ◌-◌, ℕ, List, [], ◌∷◌, length, reverse, refl, sym, ap, ◌∙◌, subst, arith, Option, Some, None, Result, Ok}
 use Rattle.std.specs.List.{slice_get}
 use Rattle.std.specs.Option.{option_map}
-use Rattle.ca_base.specs.declared.memory.MemoryOr.{MemoryOr}
-use Rattle.ca_base.specs.Faults.{MayMake}
-use Rattle.ca_types.specs.declared.value.Value.{Value}
-use Rattle.ca_types.specs.declared.value.Value.TheViews as value
+use Rattle.faults.specs.declared.memory.MemoryOr.{MemoryOr}
+use Rattle.faults.specs.Faults.{MayMake}
+use Rattle.syntax_trees.specs.declared.value.Value.{Value}
+use Rattle.syntax_trees.specs.declared.value.Value.TheViews as value
 use Rattle.value_lift.specs.declared.trap.LiftTrap.{LiftTrap}
 use Rattle.wasm_store.specs.Store.{Store}
 use Rattle.comp_graph.specs.declared.graph.Lower.{Lower}
@@ -22,7 +22,7 @@ use Rattle.world.specs.Reading.{memory_of, bytes_of, lower_at}
 use Rattle.world.specs.declared.state.Waiter.{Waiter}
 use Rattle.world.specs.Passed.{Passes, CanPass, IsPassedBy}
 use Rattle.world.specs.Seen.{IsScriptCall, IsTaskCall, IsCalled}
-use Rattle.ca_types.specs.declared.types.ValType.{ValType}
+use Rattle.syntax_trees.specs.declared.types.ValType.{ValType}
 use Rattle.world.proofs.Callees.{HasLast, call_there}
 
 has_last : (us : List Waiter) (u : Waiter) → slice_get (u ∷ us) (length us) ≡ None → ⊥

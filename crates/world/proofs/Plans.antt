@@ -5,19 +5,19 @@ use Rattle.std.proofs.lemmas.List.{length-map, length-replicate}
 use Rattle.std.specs.Str.{IsUtf8}
 use Rattle.std.specs.Int.{Width, w8, w16, w32, w64, byte_len, bytes_low_first, to_le_bytes, cast_unsigned}
 use mir.Val.{bits}
-use Rattle.ca_types.specs.declared.types.ValType.{ValType, out-ValType}
-use Rattle.ca_types.specs.declared.types.Case.{Case}
-use Rattle.ca_types.specs.declared.types.Field.{Field}
-use Rattle.ca_types.specs.declared.types.ValType.TheOpen as F
-use Rattle.ca_types.specs.declared.types.ValType.TheViews as types
-use Rattle.ca_types.specs.declared.types.ValType.TheVariants as leaves
-use Rattle.ca_types.specs.declared.value.Value.{Value}
-use Rattle.ca_types.specs.declared.value.Value.TheOpen as V
-use Rattle.ca_types.specs.declared.value.Value.TheViews as values
-use Rattle.ca_types.specs.declared.value.Value.TheVariants as plain
-use Rattle.ca_types.specs.Ends.{some_true}
-use Rattle.ca_types.specs.Flat.{flat}
-use Rattle.ca_types.specs.Layout.{Laid, laid, laid_step, tag_size, bits_size, aligned, tagged}
+use Rattle.syntax_trees.specs.declared.types.ValType.{ValType, out-ValType}
+use Rattle.syntax_trees.specs.declared.types.Case.{Case}
+use Rattle.syntax_trees.specs.declared.types.Field.{Field}
+use Rattle.syntax_trees.specs.declared.types.ValType.TheOpen as F
+use Rattle.syntax_trees.specs.declared.types.ValType.TheViews as types
+use Rattle.syntax_trees.specs.declared.types.ValType.TheVariants as leaves
+use Rattle.syntax_trees.specs.declared.value.Value.{Value}
+use Rattle.syntax_trees.specs.declared.value.Value.TheOpen as V
+use Rattle.syntax_trees.specs.declared.value.Value.TheViews as values
+use Rattle.syntax_trees.specs.declared.value.Value.TheVariants as plain
+use Rattle.syntax_trees.specs.Ends.{some_true}
+use Rattle.syntax_trees.specs.Flat.{flat}
+use Rattle.laid_types.specs.Layout.{Laid, laid, laid_step, tag_size, bits_size, aligned, tagged}
 use Rattle.laid_types.specs.Lists.{has_list, held_list}
 use Rattle.laid_types.specs.Gathered.{lists, list_over}
 use Rattle.laid_types.specs.Parts.{parts_of, parts_case, part_at, case_count, payload_place, layouts}
@@ -40,8 +40,8 @@ use Rattle.world.specs.Kept.{IsPlanned}
 use Rattle.lowering_laws.proofs.Bytes.{le_bytes}
 use Rattle.lowering_laws.proofs.Aligns.{align_low}
 use Rattle.wasm_store.proofs.Lists.{all_append}
-use Rattle.ca_types.specs.declared.types.FuncType.{FuncType}
-use Rattle.ca_types.specs.declared.types.Param.{Param}
+use Rattle.syntax_trees.specs.declared.types.FuncType.{FuncType}
+use Rattle.syntax_trees.specs.declared.types.Param.{Param}
 use Rattle.comp_graph.specs.Needs.{hold_list}
 use Rattle.world.specs.Passing.{params_type}
 use Rattle.laid_types.proofs.ByParts.{map_twice}

@@ -2,7 +2,7 @@
 use Rattle.std.proofs.Common.{◌≡◌, ◌≢◌, ◌≤◌, ◌<◌, ◌+◌, ◌⊎◌, inl, inr, ℕ, List, [], ◌∷◌, ◌++◌, length, drop, reverse, refl, sym, ap, ◌∙◌, subst, arith, append-nil, Option, Some}
 use Rattle.std.proofs.lemmas.List.{reverse-append}
 use Rattle.std.specs.List.{slice_get, AllByRecursion}
-use Rattle.wasm_module.specs.declared.types.ValType.{ValType}
+use Rattle.syntax_trees.specs.declared.module_types.ValType.{ValType}
 use Rattle.wasm_store.specs.declared.trap.Trap.{Trap}
 use Rattle.wasm_numbers.specs.Types.{AreWords}
 use Rattle.wasm_store.specs.Store.{Function, Host as HostFunction, type_of, Store}

@@ -2,12 +2,12 @@
 use Rattle.std.proofs.Common.{◌≡◌, ℕ, zero, suc, nat_le, List, [], ◌∷◌, length, refl, Option, Some, None}
 use Rattle.std.specs.List.{slice_get, AllByRecursion}
 use Rattle.std.specs.Option.{option_map}
-use Rattle.wasm_module.specs.declared.types.FuncType.{FuncType}
-use Rattle.wasm_module.specs.declared.types.Locals.{Locals}
-use Rattle.wasm_module.specs.declared.instr.BlockType.{BlockType}
-use Rattle.wasm_module.specs.declared.instr.Instr.{Instr}
-use Rattle.wasm_module.specs.declared.instr.Instr.TheVariants as instr
-use Rattle.wasm_module.specs.Expr.{Expr, End, Plain, Block, Loop, If, IfElse}
+use Rattle.syntax_trees.specs.declared.module_types.FuncType.{FuncType}
+use Rattle.syntax_trees.specs.declared.module_types.Locals.{Locals}
+use Rattle.syntax_trees.specs.declared.instr.BlockType.{BlockType}
+use Rattle.syntax_trees.specs.declared.instr.Instr.{Instr}
+use Rattle.syntax_trees.specs.declared.instr.Instr.TheVariants as instr
+use Rattle.syntax_trees.specs.Expr.{Expr, End, Plain, Block, Loop, If, IfElse}
 use Rattle.wasm_store.specs.Store.{Function, Own, Host, type_of, Table, Instance, Store, found_at, table_at}
 use Rattle.wasm_store.specs.Stack.{Label, Frame, Stack, Running, AtHost, Given}
 use Rattle.wasm_store.specs.Effects.{Effect, Leaves, Fails, NoRule, effect}

@@ -4,16 +4,16 @@ use Rattle.std.proofs.lemmas.Bool.Decides.{nat_tests}
 use Rattle.std.proofs.lemmas.List.{length-map}
 use Rattle.std.specs.Prelude.{slice_index}
 use Rattle.std.specs.List.{flat_map}
-use Rattle.ca_types.specs.declared.core_type.CoreType.{CoreType}
-use Rattle.ca_types.specs.declared.core_type.CoreType.TheVariants.{I32, I64}
-use Rattle.ca_types.specs.declared.types.ValType.{ValType}
-use Rattle.ca_types.specs.declared.types.Param.{Param}
-use Rattle.ca_types.specs.declared.types.FuncType.{FuncType}
-use Rattle.ca_types.specs.declared.value.Value.{Value}
-use Rattle.ca_types.specs.Flat.{flat, all_of, at_most, out_place, returned, flat_params, flat_payload}
-use Rattle.ca_types.specs.Layout.{laid}
+use Rattle.syntax_trees.specs.declared.core_type.CoreType.{CoreType}
+use Rattle.syntax_trees.specs.declared.core_type.CoreType.TheVariants.{I32, I64}
+use Rattle.syntax_trees.specs.declared.types.ValType.{ValType}
+use Rattle.syntax_trees.specs.declared.types.Param.{Param}
+use Rattle.syntax_trees.specs.declared.types.FuncType.{FuncType}
+use Rattle.syntax_trees.specs.declared.value.Value.{Value}
+use Rattle.syntax_trees.specs.Flat.{flat, all_of, at_most, out_place, returned, flat_params, flat_payload}
+use Rattle.laid_types.specs.Layout.{laid}
 use Rattle.laid_types.specs.Lists.{has_list, held_list}
-use Rattle.wasm_module.specs.declared.types.ValType as core
+use Rattle.syntax_trees.specs.declared.module_types.ValType as core
 use Rattle.wasm_numbers.specs.Types.{AreWords}
 use Rattle.value_lift.specs.declared.trap.LiftTrap.{LiftTrap}
 use Rattle.value_lift.specs.declared.counting.LiftOf.{LiftOf}

@@ -3,10 +3,10 @@
 -- types that take them.
 use Rattle.std.specs.Prelude.{◌≡◌, ◌<◌, ◌≤◌, ◌+◌, ◌^◌, ℕ, List, [], ◌∷◌, ◌++◌, length, drop, map, Option, Some, None, IsSome}
 use Rattle.std.specs.List.{slice_get, AllByRecursion}
-use Rattle.wasm_module.specs.declared.types.ValType.{ValType}
-use Rattle.wasm_module.specs.declared.types.FuncType as core
-use Rattle.wasm_module.specs.declared.types.Limits.{Limits}
-use Rattle.wasm_module.specs.declared.module.ModuleTree.{ModuleTree}
+use Rattle.syntax_trees.specs.declared.module_types.ValType.{ValType}
+use Rattle.syntax_trees.specs.declared.module_types.FuncType as core
+use Rattle.syntax_trees.specs.declared.module_types.Limits.{Limits}
+use Rattle.syntax_trees.specs.declared.module.ModuleTree.{ModuleTree}
 use Rattle.wasm_numbers.specs.Types.{AreWords}
 use Rattle.wasm_memory.specs.Memories.{MemoryState, page_count}
 use Rattle.wasm_store.specs.Store.{Function, Host as HostFunction, type_of, Table, Instance, Store, table_at, memory_at}
@@ -15,7 +15,7 @@ use Rattle.wasm_store.specs.Step.{resume}
 use Rattle.wasm_store.specs.Instantiation.{LimitsMatch}
 use Rattle.wasm_store.specs.Typed.{StoreTyped, HasContext, module_context, StackTyped}
 use Rattle.wasm_store.specs.Laws.{IsOwn}
-use Rattle.ca_types.specs.declared.value.Value.TheViews as value
+use Rattle.syntax_trees.specs.declared.value.Value.TheViews as value
 use Rattle.value_lower.specs.Plan.{Plan, Gives, Fails, Asks, Size, Put, Adds}
 use Rattle.lowering_laws.specs.Values.{IsOf, AreBytes}
 use Rattle.comp_graph.specs.declared.graph.CanonFunc.{CanonFunc}

@@ -1,10 +1,10 @@
 -- What is passed to tasks (Component Model, CanonicalABI.md, "Flat Lifting"): the script's arguments, or what a task passes by the words
 -- of its call.
 use Rattle.std.specs.Prelude.{◌≡◌, ℕ, List, [], ◌∷◌, Some, Result}
-use Rattle.ca_base.specs.declared.memory.MemoryOr.{MemoryOr}
-use Rattle.ca_base.specs.Faults.{MayMake}
-use Rattle.ca_types.specs.declared.types.ValType.{ValType}
-use Rattle.ca_types.specs.declared.value.Value.{Value}
+use Rattle.faults.specs.declared.memory.MemoryOr.{MemoryOr}
+use Rattle.faults.specs.Faults.{MayMake}
+use Rattle.syntax_trees.specs.declared.types.ValType.{ValType}
+use Rattle.syntax_trees.specs.declared.value.Value.{Value}
 use Rattle.value_lift.specs.declared.trap.LiftTrap.{LiftTrap}
 use Rattle.wasm_store.specs.Store.{Store}
 use Rattle.wasm_numbers.specs.Types.{AreWords}

@@ -1,10 +1,10 @@
 -- How arguments and results are passed (Component Model, CanonicalABI.md, "Flattening", "Flat Lifting" and "Flat Lowering"): in core
 -- values, or in memory, where they have too many core values. Arguments are passed as one tuple.
 use Rattle.std.specs.Prelude.{ℕ, nat_lt, Bool, slice_index, if◌then◌else◌, List, [], ◌∷◌, length, Result}
-use Rattle.ca_types.specs.declared.types.ValType.{ValType}
-use Rattle.ca_types.specs.declared.types.FuncType.{FuncType}
-use Rattle.ca_types.specs.declared.value.Value.{Value}
-use Rattle.ca_types.specs.Flat.{flat_params, flat_payload}
+use Rattle.syntax_trees.specs.declared.types.ValType.{ValType}
+use Rattle.syntax_trees.specs.declared.types.FuncType.{FuncType}
+use Rattle.syntax_trees.specs.declared.value.Value.{Value}
+use Rattle.syntax_trees.specs.Flat.{flat_params, flat_payload}
 use Rattle.value_lift.specs.declared.trap.LiftTrap.{LiftTrap}
 use Rattle.value_lift.specs.declared.counting.LiftOf.TheVariants as whole
 use Rattle.value_lift.specs.Lifting.{load, lift_flat}

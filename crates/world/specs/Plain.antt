@@ -2,10 +2,10 @@
 -- no end of a stream or a future. So are all types that are read.
 use Rattle.std.specs.Prelude.{◌≡◌, false, IfSome}
 use Rattle.std.specs.List.{AllByRecursion}
-use Rattle.ca_types.specs.declared.types.ValType.{ValType}
-use Rattle.ca_types.specs.declared.types.FuncType.{FuncType}
-use Rattle.ca_types.specs.declared.exports.Export.{Export}
-use Rattle.ca_types.specs.Ends.{has_end}
+use Rattle.syntax_trees.specs.declared.types.ValType.{ValType}
+use Rattle.syntax_trees.specs.declared.types.FuncType.{FuncType}
+use Rattle.syntax_trees.specs.declared.exports.Export.{Export}
+use Rattle.syntax_trees.specs.Ends.{has_end}
 use Rattle.laid_types.specs.Handles.{has_handle}
 use Rattle.comp_graph.specs.declared.graph.CanonFunc.{CanonFunc}
 use Rattle.comp_graph.specs.Graph.{Graph}

@@ -4,8 +4,8 @@ use Rattle.std.specs.Prelude.{◌≡◌, ℕ, suc, List, [], ◌∷◌, Some}
 use Rattle.std.specs.List.{AllByRecursion, AllZip}
 use Rattle.wasm_typing.specs.Modules.{Typed}
 use Rattle.wasm_store.specs.Instantiation.{InRange}
-use Rattle.ca_types.specs.declared.value.Value.TheViews as value
-use Rattle.ca_types.specs.declared.exports.Export.{Export}
+use Rattle.syntax_trees.specs.declared.value.Value.TheViews as value
+use Rattle.syntax_trees.specs.declared.exports.Export.{Export}
 use Rattle.lowering_laws.specs.Values.{IsOf}
 pub use Rattle.lowering_laws.specs.Values.{AreBytes}
 use Rattle.comp_graph.specs.declared.graph.Action.{Action}

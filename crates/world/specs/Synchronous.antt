@@ -2,8 +2,8 @@
 -- `canon lower`): each calls a function that is lowered without `async`. A built-in, which no such graph has, calls none and passes
 -- nothing.
 use Rattle.std.specs.Prelude.{[], None}
-use Rattle.ca_types.specs.declared.types.FuncType.{FuncType}
-use Rattle.wasm_module.specs.declared.types.FuncType as core
+use Rattle.syntax_trees.specs.declared.types.FuncType.{FuncType}
+use Rattle.syntax_trees.specs.declared.module_types.FuncType as core
 use Rattle.comp_graph.specs.declared.graph.CanonFunc.{CanonFunc}
 use Rattle.comp_graph.specs.declared.graph.CanonFunc.TheVariants as canon_func
 use Rattle.comp_graph.specs.Needs.{lowered_type}

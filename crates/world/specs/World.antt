@@ -7,7 +7,7 @@ use Rattle.wasm_store.specs.Store as stores
 use Rattle.wasm_store.specs.Store.{Store}
 use Rattle.wasm_store.specs.Stack.{Stack}
 use Rattle.wasm_store.specs.Instantiation.{empty}
-use Rattle.ca_types.specs.declared.value.Value.{Value}
+use Rattle.syntax_trees.specs.declared.value.Value.{Value}
 use Rattle.comp_graph.specs.Graph.{Graph, Lifted}
 use Rattle.world.specs.Synchronous.{canon_type}
 use Rattle.world.specs.Control.{Control, Instantiates}

@@ -1,10 +1,10 @@
 //! Arguments of tasks: what the script or a task passes, lifted.
 
 ghost use Rattle.std.specs.Prelude.{◌≡◌, ◌≤◌, ◌<◌, ◌^◌, false, length, take, slice_index, Some, Ok};
-ghost use Rattle.ca_base.specs.Faults.{MayMake};
-ghost use Rattle.ca_types.specs.declared.types.FuncType.{FuncType};
-ghost use Rattle.ca_types.specs.declared.value.Value.TheViews as values;
-ghost use Rattle.ca_types.specs.Ends.{has_end};
+ghost use Rattle.faults.specs.Faults.{MayMake};
+ghost use Rattle.syntax_trees.specs.declared.types.FuncType.{FuncType};
+ghost use Rattle.syntax_trees.specs.declared.value.Value.TheViews as values;
+ghost use Rattle.syntax_trees.specs.Ends.{has_end};
 ghost use Rattle.laid_types.specs.Handles.{has_handle};
 ghost use Rattle.comp_graph.specs.declared.graph.Lower.{Lower};
 ghost use Rattle.world.specs.World.{Task};
@@ -19,10 +19,10 @@ use crate::canons::{canon_at, lower_of};
 use crate::copying::same_values;
 use crate::named_graph::NamedGraph;
 use crate::state::{RunState, Waiter};
-use ca_types::Value;
 use laid_types::LaidType;
 use script_reader::{Call, Script};
 use std::alloc::Global;
+use syntax_trees::Value;
 use value_lift::{LiftError, LiftOf, lift_flat_bare, load_bare};
 use wasm_store::Store;
 

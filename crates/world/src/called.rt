@@ -2,7 +2,7 @@
 
 ghost use Rattle.std.specs.Prelude.{◌≡◌, ◌<◌, ◌+◌, ℕ, length, Some};
 ghost use Rattle.std.specs.List.{slice_get};
-ghost use Rattle.ca_types.specs.declared.exports.Export.{Export};
+ghost use Rattle.syntax_trees.specs.declared.exports.Export.{Export};
 ghost use Rattle.comp_graph.specs.declared.graph.Lower.{Lower};
 ghost use Rattle.script_reader.specs.declared.script.Call.{Call};
 ghost use Rattle.comp_graph.specs.Graph.{Lifted, func_named};
@@ -14,9 +14,9 @@ ghost use Rattle.world.specs.Called.{IsFunc, IsRunBy};
 use crate::canons::{canon_at, lower_of};
 use crate::named_graph::NamedGraph;
 use crate::state::RunState;
-use ca_types::FuncType;
 use comp_graph::{Graph, Lift, PassedTypes};
 use script_reader::{Call, Item, Script};
+use syntax_trees::FuncType;
 
 /// The function that a task runs.
 #[derive(Drop)]

@@ -2,9 +2,9 @@
 
 ghost use Rattle.std.specs.Prelude.{◌≡◌, IfOk};
 
-use ca_base::{Memory, Name, Seq};
-use ca_types::{Boxed, Value};
+use faults::Memory;
 use std::alloc::Global;
+use syntax_trees::{Boxed, Name, Seq, Value};
 
 /// The same value. It nests as deep as its type does.
 #[cycle(copying)]

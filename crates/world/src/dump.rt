@@ -3,8 +3,9 @@
 ghost use Rattle.std.specs.Prelude.{◌≡◌, IfOk, [], map, replicate};
 ghost use Rattle.trace_show.specs.DumpText.{dump_text};
 
-use ca_base::{Bytes, Memory, Seq};
+use faults::Memory;
 use std::alloc::Global;
+use syntax_trees::{Bytes, Seq};
 use trace_labels::{Dump, LiveEntry};
 use wasm_store::Store;
 

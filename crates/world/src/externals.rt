@@ -5,9 +5,10 @@ ghost use Rattle.wasm_store.specs.Instantiation.{External as Address};
 ghost use Rattle.wasm_store.specs.Views.{address_of};
 ghost use Rattle.world.specs.Reading.{external_of, externals};
 
-use ca_base::{Memory, Seq};
 use comp_graph::{CoreExtern, FuncRef};
+use faults::Memory;
 use std::alloc::Global;
+use syntax_trees::Seq;
 use wasm_code::External;
 use wasm_store::Store;
 

@@ -2,16 +2,16 @@
 
 ghost use Rattle.std.specs.Prelude.{◌≡◌, ◌<◌, Some, IfOk, length};
 ghost use Rattle.std.specs.List.{slice_get};
-ghost use Rattle.ca_base.specs.Names.{first_named};
-ghost use Rattle.ca_types.specs.declared.exports.Export.{Export};
+ghost use Rattle.syntax_trees.specs.Names.{first_named};
+ghost use Rattle.syntax_trees.specs.declared.exports.Export.{Export};
 ghost use Rattle.comp_graph.specs.Graph.{names};
 
 use ca_base::{by_name, find};
-use ca_types::FuncType;
 use comp_graph::{Graph, Lift};
 use std::alloc::{AllocError, Global};
 use std::collections::BTreeMap;
 use std::marker::Model;
+use syntax_trees::FuncType;
 
 /// A graph, and the numbers of its exports by their names. Contracts see the graph.
 #[derive(Drop)]
@@ -23,16 +23,16 @@ pub struct NamedGraph<'g, 'a> {
 impl<'g, 'a> Model for NamedGraph<'g, 'a> {
     ghost use Rattle.std.specs.Prelude.{◌≡◌, ℕ, List};
     ghost use Rattle.std.specs.Coded.{codes};
-    ghost use Rattle.wasm_module.specs.contracts.module.ModuleTree as tree;
-    ghost use Rattle.ca_types.specs.contracts.exports.Export as export;
+    ghost use Rattle.syntax_trees.specs.contracts.module.ModuleTree as tree;
+    ghost use Rattle.syntax_trees.specs.contracts.exports.Export as export;
     ghost use Rattle.comp_graph.specs.contracts.graph.Action as action;
     ghost use Rattle.comp_graph.specs.contracts.graph.CoreExtern as core_extern;
     ghost use Rattle.comp_graph.specs.contracts.graph.CanonFunc as canon_func;
     ghost use Rattle.comp_graph.specs.contracts.graph.Resource as a_resource;
-    ghost use Rattle.ca_types.specs.contracts.types.ValType as val_type;
+    ghost use Rattle.syntax_trees.specs.contracts.types.ValType as val_type;
     ghost use Rattle.comp_graph.specs.contracts.graph.Lift as lift;
     ghost use Rattle.comp_graph.specs.Graph as graphs;
-    ghost use Rattle.ca_base.specs.Names.{at_name, first_named};
+    ghost use Rattle.syntax_trees.specs.Names.{at_name, first_named};
 
     ghost Value = { graphs.Graph };
 

@@ -5,8 +5,9 @@ ghost use Rattle.world.specs.Refusing.{IsRefused};
 
 use crate::canons::builtin_of;
 use crate::run_end::RunEnd;
-use ca_base::{Memory, Seq};
 use comp_graph::Graph;
+use faults::Memory;
+use syntax_trees::Seq;
 use trace_labels::{Label, TrapName};
 use wasm_execution::Words;
 

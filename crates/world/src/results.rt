@@ -1,11 +1,11 @@
 //! Results of functions, lifted from what their core functions ended with.
 
 ghost use Rattle.std.specs.Prelude.{◌≡◌, false, map, Some};
-ghost use Rattle.ca_types.specs.declared.types.FuncType.{FuncType};
-ghost use Rattle.ca_types.specs.declared.types.ValType.{ValType};
-ghost use Rattle.ca_types.specs.Ends.{has_end};
-ghost use Rattle.ca_types.specs.Flat.{flat, at_most};
-ghost use Rattle.ca_base.specs.Faults.{MayMake};
+ghost use Rattle.syntax_trees.specs.declared.types.FuncType.{FuncType};
+ghost use Rattle.syntax_trees.specs.declared.types.ValType.{ValType};
+ghost use Rattle.syntax_trees.specs.Ends.{has_end};
+ghost use Rattle.syntax_trees.specs.Flat.{flat, at_most};
+ghost use Rattle.faults.specs.Faults.{MayMake};
 ghost use Rattle.laid_types.specs.Handles.{has_handle};
 ghost use Rattle.wasm_numbers.specs.Types.{AreWords};
 ghost use Rattle.comp_graph.specs.Needs.{core_val, lifted_type};
@@ -17,9 +17,9 @@ ghost use Rattle.world.specs.Addresses.{HasOptions};
 
 use crate::addresses::{bytes_of, memory_of};
 use crate::called::CalledFunc;
-use ca_types::Value;
 use laid_types::LaidType;
 use std::alloc::Global;
+use syntax_trees::Value;
 use trace_labels::TypedValue;
 use value_lift::{LiftError, LiftOf, lift_flat_bare, load_bare};
 use wasm_store::Store;

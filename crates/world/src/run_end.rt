@@ -1,7 +1,7 @@
 //! The ends of runs.
 
-use ca_base::Seq;
 use std::alloc::Global;
+use syntax_trees::Seq;
 use thiserror::Error;
 use trace_labels::TrapName;
 

@@ -7,12 +7,14 @@ ghost use Rattle.comp_graph.specs.Graph.{Graph};
 ghost use Rattle.world.specs.Synchronous.{canon_type};
 ghost use Rattle.world.specs.Seen.{IsAtPlan};
 
-use ca_base::{Fuel, Memory, Seq};
+use ca_base::Fuel;
+use faults::Memory;
 use script_reader::Script;
 use std::alloc::Global;
+use syntax_trees::Seq;
+use syntax_trees::module_types::FuncType;
 use trace_labels::Label;
 use wasm_execution::{Suspended, Words};
-use wasm_module::FuncType;
 use wasm_store::Store;
 
 /// A task that waits for one that it called. Its stack is spent when it goes on, or given up.

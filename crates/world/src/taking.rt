@@ -2,7 +2,7 @@
 
 ghost use Rattle.std.specs.Prelude.{◌≡◌, map, Some, IfOk, MatchResult};
 ghost use Rattle.std.specs.List.{slice_get};
-ghost use Rattle.ca_base.specs.Names.{first_named};
+ghost use Rattle.syntax_trees.specs.Names.{first_named};
 ghost use Rattle.comp_graph.specs.Graph.{Lifted, names, func_named, func_at};
 ghost use Rattle.world.specs.Calling.{typed};
 ghost use Rattle.world.specs.Sound.{IsSound, IsSoundCall};
@@ -14,10 +14,10 @@ use crate::copying::same_value;
 use crate::named_graph::NamedGraph;
 use crate::run_end::RunEnd;
 use crate::state::RunState;
-use ca_base::{Memory, Name, Seq};
-use ca_types::{Param, Value};
+use faults::Memory;
 use script_reader::{Call, Item, Script};
 use std::alloc::Global;
+use syntax_trees::{Name, Param, Seq, Value};
 use trace_labels::{Label, TypedValue};
 
 /// Takes the next item of the script, which costs a unit of fuel, and answers the task that is made, or how the run ends: by `Done`

@@ -1,6 +1,6 @@
 //! Worlds in which cases begin.
 
-use ca_base::{Fuel, Seq};
+use ca_base::Fuel;
 use cases::bytes_of;
 use choices::Picks;
 use entry_gate::Kind;
@@ -8,6 +8,7 @@ use instances::Instance;
 use module_reading::valid_of;
 use std::alloc::Global;
 use std::test::Fail;
+use syntax_trees::Seq;
 use task_table::{Callee, Caller, TaskSlot, Tasks};
 use tasks::TaskEvent;
 use wasm_store::Store;

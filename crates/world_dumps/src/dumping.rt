@@ -5,8 +5,9 @@ ghost use Rattle.world_parts.specs.Held.{held};
 ghost use Rattle.world_dumps.specs.Tables.{dump_of};
 
 use crate::tables::tables_shown;
-use ca_base::{Bytes, Memory, Seq};
+use faults::Memory;
 use std::alloc::Global;
+use syntax_trees::{Bytes, Seq};
 use trace_labels::Dump;
 use wasm_store::Store;
 use world_parts::Parts;

@@ -6,11 +6,12 @@ ghost use Rattle.world_parts.specs.Held.{held};
 ghost use Rattle.world_dumps.specs.Entries.{side_of, end_state, state_in, handle_shown, channel_named, members_of, end_shown, entry_shown};
 
 use builtin_kinds::EndKind;
-use ca_base::{Memory, Seq};
 use channels::Channel;
+use faults::Memory;
 use instances::{EndEntry, Instance, WorldEntry};
 use res_handles::{Handle, Ownership};
 use std::alloc::Global;
+use syntax_trees::Seq;
 use trace_labels::{EndState, Entry};
 use world_parts::Parts;
 

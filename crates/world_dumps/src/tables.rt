@@ -5,9 +5,10 @@ ghost use Rattle.world_parts.specs.Held.{held};
 ghost use Rattle.world_dumps.specs.Tables.{shown_at, table_shown};
 
 use crate::entries::entry_shown;
-use ca_base::{Memory, Seq};
+use faults::Memory;
 use instances::Instance;
 use std::alloc::Global;
+use syntax_trees::Seq;
 use trace_labels::LiveEntry;
 use world_parts::Parts;
 

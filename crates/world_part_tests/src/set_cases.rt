@@ -5,8 +5,8 @@
 //! and `off:0` begin and end a wait, and `d:0` drops a set.
 
 use crate::words::{list, number, pair, write_list, write_number, yes_or_no};
-use ca_base::Memory;
 use cases::{Acts, Answers, acted};
+use faults::Memory;
 use instances::{DropSetError, Instance, SetError};
 use std::alloc::{AllocError, Global};
 use std::test::Fail;

@@ -5,7 +5,7 @@ ghost use Rattle.world_parts.specs.Held.{Does, Tells};
 ghost use Rattle.world_parts.specs.Feed.{told, spent, moved, item_taken, chosen, choice, acting, chained, rest_behind, left_chain, got};
 
 use crate::parts::{Flow, Part, Parts, Rest, Stop};
-use ca_base::Memory;
+use faults::Memory;
 use std::alloc::Global;
 use task_table::Words;
 use trace_labels::Label;

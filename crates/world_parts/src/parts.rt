@@ -1,10 +1,11 @@
 //! What is kept of a world, and what a part of a step comes to.
 
-use ca_base::{Fuel, Seq};
+use ca_base::Fuel;
 use channels::Channel;
 use choices::Picks;
 use comp_graph::FuncRef;
 use instances::Instance;
+use syntax_trees::Seq;
 use task_table::{Tasks, Words};
 use trace_labels::{Label, TrapName};
 use wasm_store::Store;

@@ -1,6 +1,6 @@
 -- Imports that are of the types that are asked for pass the test, and no others.
 use Rattle.std.proofs.Common.{◌≡◌, Bool, true, false, List, refl, sym}
-use Rattle.wasm_module.specs.declared.module.ModuleTree.{ModuleTree}
+use Rattle.syntax_trees.specs.declared.module.ModuleTree.{ModuleTree}
 use Rattle.wasm_store.specs.Store.{Store}
 use Rattle.wasm_store.specs.Instantiation.{External, ImportsMatch}
 use Rattle.wasm_store.specs.Matching.{imports_fit}

@@ -2,7 +2,7 @@
 -- resource.drop`): one goes on with the words of an answer, a further one begins, and one ends over another.
 use Rattle.std.specs.Prelude.{◌≡◌, ℕ, nat_eq, Bool, true, false, if◌then◌else◌, List, [], ◌∷◌, length, slice_set, Option, Some, None, Result, Ok, Err}
 use Rattle.std.specs.List.{slice_get}
-use Rattle.wasm_module.specs.declared.types.ValType.{ValType}
+use Rattle.syntax_trees.specs.declared.module_types.ValType.{ValType}
 use Rattle.wasm_store.specs.Store.{Store}
 use Rattle.wasm_store.specs.Stack.{Stack}
 use Rattle.wasm_store.specs.Step.{resume}

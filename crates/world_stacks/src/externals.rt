@@ -7,9 +7,9 @@ ghost use Rattle.world_stacks.specs.Addresses.{external_of, externals};
 ghost use Rattle.world_stacks.specs.Instantiating.{FindsAll};
 
 use crate::addresses::{func_address, global_address, memory_address, table_address};
-use ca_base::Seq;
 use comp_graph::CoreExtern;
 use std::alloc::Global;
+use syntax_trees::Seq;
 use wasm_code::External;
 use wasm_store::Store;
 use world_parts::{Part, Stop};

@@ -8,8 +8,8 @@ ghost use Rattle.world_stacks.specs.Starting.{is_word, are_words, started, call_
 use crate::addresses::func_address;
 use comp_graph::FuncRef;
 use std::alloc::Global;
+use syntax_trees::module_types::ValType;
 use wasm_execution::{Running, Suspended, start};
-use wasm_module::ValType;
 use wasm_store::Store;
 use world_parts::{Part, Stop};
 

@@ -1,7 +1,7 @@
 -- A function gives a word of no code.
 use Rattle.std.proofs.Common.{◌≡◌, ◌∙◌, true, [], ◌∷◌, Some, None, refl, ap}
-use Rattle.wasm_module.specs.declared.instr.Instr.TheVariants.{Drop}
-use Rattle.wasm_module.specs.Expr.{End, Plain}
+use Rattle.syntax_trees.specs.declared.instr.Instr.TheVariants.{Drop}
+use Rattle.syntax_trees.specs.Expr.{End, Plain}
 use Rattle.wasm_store.specs.Stack.{Running}
 use Rattle.tasks.specs.declared.subtask_state.SubtaskState.TheVariants as told
 use Rattle.comp_graph.specs.Graph.{Graph, no_options}

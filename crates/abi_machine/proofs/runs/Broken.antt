@@ -1,9 +1,9 @@
 -- A future that is not written is dropped.
 use Rattle.std.proofs.Common.{◌≡◌, Bool, false, [], ◌∷◌, Some, None, refl, ap}
-use Rattle.wasm_module.specs.Expr.{End}
+use Rattle.syntax_trees.specs.Expr.{End}
 use Rattle.wasm_store.specs.Stack.{Running}
 use Rattle.builtin_kinds.specs.declared.EndKind.TheVariants.{Future}
-use Rattle.ca_types.specs.declared.types.ValType.TheVariants as leaves
+use Rattle.syntax_trees.specs.declared.types.ValType.TheVariants as leaves
 use Rattle.handle_table.specs.History.{Add}
 use Rattle.stream_ends.specs.declared.side.Side.TheVariants.{Reader, Writer}
 use Rattle.comp_graph.specs.Graph.{Graph, no_options}

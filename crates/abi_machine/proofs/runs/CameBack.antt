@@ -1,6 +1,6 @@
 -- A call comes back to an instance that waits.
 use Rattle.std.proofs.Common.{◌≡◌, ◌∙◌, false, [], ◌∷◌, None, refl, ap}
-use Rattle.wasm_module.specs.Expr.{End}
+use Rattle.syntax_trees.specs.Expr.{End}
 use Rattle.wasm_store.specs.Stack.{Running}
 use Rattle.tasks.specs.declared.subtask_state.SubtaskState.TheVariants as told
 use Rattle.comp_graph.specs.Graph.{Graph, no_options}

@@ -1,6 +1,6 @@
 -- A cancellation ends a wait in a loop.
 use Rattle.std.proofs.Common.{◌≡◌, true, [], ◌∷◌, Some, None, refl, ap}
-use Rattle.wasm_module.specs.Expr.{End}
+use Rattle.syntax_trees.specs.Expr.{End}
 use Rattle.wasm_store.specs.Stack.{Running}
 use Rattle.handle_table.specs.History.{Add}
 use Rattle.tasks.specs.declared.phase.Resolution.TheVariants.{Cancelled}

@@ -1,13 +1,13 @@
 -- A call is waited for.
 use Rattle.std.proofs.Common.{◌≡◌, ◌∙◌, false, List, [], ◌∷◌, ◌++◌, length, Some, None, refl, ap}
 use Rattle.std.specs.Prelude.{nat_lt}
-use Rattle.wasm_module.specs.Expr.{End}
+use Rattle.syntax_trees.specs.Expr.{End}
 use Rattle.wasm_store.specs.Stack.{Running}
-use Rattle.ca_types.specs.declared.core_type.CoreType.{CoreType}
-use Rattle.ca_types.specs.declared.types.ValType.TheOpen as F
-use Rattle.ca_types.specs.declared.types.ValType.TheVariants as leaves
-use Rattle.ca_types.specs.declared.value.Value.TheOpen as V
-use Rattle.ca_types.specs.declared.value.Value.TheVariants as plain
+use Rattle.syntax_trees.specs.declared.core_type.CoreType.{CoreType}
+use Rattle.syntax_trees.specs.declared.types.ValType.TheOpen as F
+use Rattle.syntax_trees.specs.declared.types.ValType.TheVariants as leaves
+use Rattle.syntax_trees.specs.declared.value.Value.TheOpen as V
+use Rattle.syntax_trees.specs.declared.value.Value.TheVariants as plain
 use Rattle.tasks.specs.declared.phase.Resolution.TheVariants.{Returned}
 use Rattle.tasks.specs.declared.subtask_state.SubtaskState.TheVariants as told
 use Rattle.comp_graph.specs.Needs.{flat_param_limit}

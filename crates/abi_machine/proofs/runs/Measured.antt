@@ -1,13 +1,13 @@
 -- A text is passed.
 use Rattle.std.proofs.Common.{◌≡◌, List, [], ◌∷◌, ◌++◌, length, replicate, codes, Some, None, refl, ap}
 use Rattle.std.specs.Prelude.{nat_lt}
-use Rattle.wasm_module.specs.Expr.{End}
+use Rattle.syntax_trees.specs.Expr.{End}
 use Rattle.wasm_store.specs.Stack.{Running}
-use Rattle.ca_types.specs.declared.core_type.CoreType.{CoreType}
-use Rattle.ca_types.specs.declared.types.ValType.TheOpen as F
-use Rattle.ca_types.specs.declared.types.ValType.TheVariants as leaves
-use Rattle.ca_types.specs.declared.value.Value.TheOpen as V
-use Rattle.ca_types.specs.declared.value.Value.TheVariants as plain
+use Rattle.syntax_trees.specs.declared.core_type.CoreType.{CoreType}
+use Rattle.syntax_trees.specs.declared.types.ValType.TheOpen as F
+use Rattle.syntax_trees.specs.declared.types.ValType.TheVariants as leaves
+use Rattle.syntax_trees.specs.declared.value.Value.TheOpen as V
+use Rattle.syntax_trees.specs.declared.value.Value.TheVariants as plain
 use Rattle.tasks.specs.declared.phase.Resolution.TheVariants.{Returned}
 use Rattle.comp_graph.specs.Needs.{flat_param_limit}
 use Rattle.comp_graph.specs.Graph.{Graph, no_options}

@@ -1,7 +1,7 @@
 -- A set is made at the last index, and no more.
 use Rattle.std.proofs.Common.{◌≡◌, ℕ, List, [], ◌∷◌, None, refl, ap}
-use Rattle.wasm_module.specs.declared.instr.Instr.TheVariants.{Drop}
-use Rattle.wasm_module.specs.Expr.{Expr, End, Plain}
+use Rattle.syntax_trees.specs.declared.instr.Instr.TheVariants.{Drop}
+use Rattle.syntax_trees.specs.Expr.{Expr, End, Plain}
 use Rattle.wasm_store.specs.Stack.{Running}
 use Rattle.comp_graph.specs.Graph.{Graph}
 use Rattle.script_reader.specs.Script.{Script}

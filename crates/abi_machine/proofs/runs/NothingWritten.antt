@@ -1,11 +1,11 @@
 -- A write of nothing is displaced by a read.
 use Rattle.std.proofs.Common.{◌≡◌, Bool, true, false, [], ◌∷◌, ◌++◌, replicate, Some, None, refl, ap}
-use Rattle.wasm_module.specs.declared.instr.Instr.TheVariants.{Drop}
-use Rattle.wasm_module.specs.declared.instr.Instr.TheVariants as instr
-use Rattle.wasm_module.specs.Expr.{End, Plain}
+use Rattle.syntax_trees.specs.declared.instr.Instr.TheVariants.{Drop}
+use Rattle.syntax_trees.specs.declared.instr.Instr.TheVariants as instr
+use Rattle.syntax_trees.specs.Expr.{End, Plain}
 use Rattle.wasm_store.specs.Stack.{Running}
 use Rattle.builtin_kinds.specs.declared.EndKind.TheVariants.{Stream}
-use Rattle.ca_types.specs.declared.types.ValType.TheVariants as leaves
+use Rattle.syntax_trees.specs.declared.types.ValType.TheVariants as leaves
 use Rattle.handle_table.specs.History.{Add}
 use Rattle.tasks.specs.declared.phase.Resolution.TheVariants.{Returned}
 use Rattle.stream_ends.specs.declared.side.Side.TheVariants.{Reader, Writer}

@@ -1,9 +1,9 @@
 -- A call that is removed has taken nothing.
 use Rattle.std.proofs.Common.{◌≡◌, [], ◌∷◌, Some, None, refl}
-use Rattle.wasm_module.specs.declared.instr.Instr.TheVariants.{Drop}
-use Rattle.wasm_module.specs.Expr.{End, Plain}
+use Rattle.syntax_trees.specs.declared.instr.Instr.TheVariants.{Drop}
+use Rattle.syntax_trees.specs.Expr.{End, Plain}
 use Rattle.wasm_store.specs.Stack.{Running}
-use Rattle.ca_types.specs.declared.types.ValType.TheVariants as leaves
+use Rattle.syntax_trees.specs.declared.types.ValType.TheVariants as leaves
 use Rattle.handle_table.specs.History.{Add}
 use Rattle.tasks.specs.declared.phase.Resolution.TheVariants.{Returned, Cancelled}
 use Rattle.tasks.specs.declared.subtask_state.SubtaskState.TheVariants as told

@@ -1,7 +1,7 @@
 -- A newcomer waits behind a task that waits to enter.
 use Rattle.std.proofs.Common.{◌≡◌, [], ◌∷◌, Some, None, refl, ap}
-use Rattle.wasm_module.specs.declared.instr.Instr.TheVariants as instr
-use Rattle.wasm_module.specs.Expr.{End, Plain}
+use Rattle.syntax_trees.specs.declared.instr.Instr.TheVariants as instr
+use Rattle.syntax_trees.specs.Expr.{End, Plain}
 use Rattle.wasm_store.specs.Stack.{Running}
 use Rattle.tasks.specs.declared.phase.Resolution.TheVariants.{Returned}
 use Rattle.comp_graph.specs.Graph.{Graph, no_options}

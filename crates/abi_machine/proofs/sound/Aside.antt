@@ -1,6 +1,6 @@
 -- Streams and futures are changed: what does not speak of them stays.
 use Rattle.std.proofs.Common.{ℕ, List, Option}
-use Rattle.ca_types.specs.declared.types.ValType.{ValType}
+use Rattle.syntax_trees.specs.declared.types.ValType.{ValType}
 use Rattle.builtin_kinds.specs.declared.EndKind.{EndKind}
 use Rattle.builtin_kinds.specs.declared.EndKind.TheVariants.{Stream, Future}
 use Rattle.abi_machine.specs.World.{Channel, World}

@@ -2,13 +2,13 @@
 use Rattle.std.proofs.Common.{◌≡◌, inl, inr, ℕ, zero, suc, true, false, List, [], ◌∷◌, ◌++◌, length, refl, sym, ap, ◌∙◌, subst, append-nil, Option, Some, None}
 use Rattle.std.specs.List.{slice_get, AllByRecursion}
 use Rattle.std.specs.Option.{option_map, option_and_then, IfSome}
-use Rattle.ca_base.specs.Names.{first_named}
-use Rattle.ca_types.specs.declared.exports.Export.{Export}
-use Rattle.ca_types.specs.declared.types.FuncType.{FuncType}
-use Rattle.ca_types.specs.declared.core_type.CoreType.{CoreType}
-use Rattle.ca_types.specs.Flat.{flat_payload, at_most}
-use Rattle.wasm_module.specs.declared.types.FuncType as core
-use Rattle.wasm_module.specs.Spaces.{type_of_func}
+use Rattle.syntax_trees.specs.Names.{first_named}
+use Rattle.syntax_trees.specs.declared.exports.Export.{Export}
+use Rattle.syntax_trees.specs.declared.types.FuncType.{FuncType}
+use Rattle.syntax_trees.specs.declared.core_type.CoreType.{CoreType}
+use Rattle.syntax_trees.specs.Flat.{flat_payload, at_most}
+use Rattle.syntax_trees.specs.declared.module_types.FuncType as core
+use Rattle.wasm_typing.specs.Spaces.{type_of_func}
 use Rattle.wasm_store.specs.Store.{Host as HostFunction, Instance, Store}
 use Rattle.wasm_store.proofs.Lists.{all_at, all_append, found_there}
 use Rattle.wasm_store.proofs.Zips.{zip_at}

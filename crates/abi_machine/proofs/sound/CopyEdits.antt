@@ -14,7 +14,7 @@ use Rattle.stream_ends.proofs.Meetings.{if_holds, standing_is}
 use Rattle.future_ends.specs.declared.meet.Meet.TheVariants as future_case
 use Rattle.future_ends.specs.Meeting as future
 use Rattle.future_ends.proofs.Meetings as future_meetings
-use Rattle.ca_types.specs.declared.types.ValType.{ValType}
+use Rattle.syntax_trees.specs.declared.types.ValType.{ValType}
 use Rattle.abi_machine.specs.Control.{EndRef}
 use Rattle.abi_machine.specs.World.{Channel, World, new_channel}
 use Rattle.abi_machine.specs.Edits.{changed_number, with_channel, channel_made, offered_by, transferred_by, concluded_by}

@@ -4,7 +4,7 @@ use Rattle.std.specs.Prelude.{IsSome}
 use Rattle.std.specs.List.{slice_get, AllByRecursion}
 use Rattle.std.specs.Option.{option_map, option_and_then}
 use Rattle.wasm_store.proofs.Lists.{all_at, all_append}
-use Rattle.wasm_module.specs.declared.types.FuncType.{FuncType}
+use Rattle.syntax_trees.specs.declared.module_types.FuncType.{FuncType}
 use Rattle.wasm_store.specs.Store.{Function, Instance, Store, found_at}
 use Rattle.builtin_kinds.specs.declared.ResourceOp.TheVariants as resource_op
 use Rattle.comp_graph.specs.declared.graph.BuiltinKind.{BuiltinKind}

@@ -13,8 +13,8 @@ use Rattle.stream_ends.specs.declared.stream_end.End.{End}
 use Rattle.stream_ends.specs.Ends.{end_at}
 use Rattle.stream_ends.specs.Ends as stream
 use Rattle.tasks.specs.declared.phase.Resolution.TheVariants.{Cancelled}
-use Rattle.ca_types.specs.declared.types.ValType.{ValType}
-use Rattle.ca_types.specs.declared.value.Value.{Value}
+use Rattle.syntax_trees.specs.declared.types.ValType.{ValType}
+use Rattle.syntax_trees.specs.declared.value.Value.{Value}
 use Rattle.comp_graph.specs.Graph.{Graph}
 use Rattle.script_reader.specs.Script.{Script}
 use Rattle.abi_machine.specs.Control.{EndRef}

@@ -1,9 +1,9 @@
 -- What lifting in a world keeps, where nothing is under way at an end that is taken, nothing is lent of a handle that is, and a borrow is
 -- lent only where the type holds one.
 use Rattle.std.proofs.Common.{◌≡◌, ℕ, Bool, true, false, List, refl, Option, Some, None, Result, Ok, Err, if◌then◌else◌}
-use Rattle.ca_types.specs.declared.types.ValType.{ValType}
+use Rattle.syntax_trees.specs.declared.types.ValType.{ValType}
 use Rattle.laid_types.specs.Handles.{has_borrow, held_borrow}
-use Rattle.ca_types.specs.declared.types.FuncType.{FuncType}
+use Rattle.syntax_trees.specs.declared.types.FuncType.{FuncType}
 use Rattle.value_lift.specs.declared.trap.LiftTrap.{LiftTrap}
 use Rattle.value_lift.specs.Answers.{counted}
 use Rattle.res_handles.specs.declared.handle.Handle.{Handle}

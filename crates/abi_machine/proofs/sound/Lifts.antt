@@ -4,16 +4,16 @@ use Rattle.std.proofs.Common.{◌≡◌, ◌∙◌, ◌+◌, ◌*◌, ◌||◌, 
 use Rattle.std.specs.Prelude.{◌==◌}
 use Rattle.std.specs.List.{AllByRecursion}
 use Rattle.std.specs.Int.{Width, w8, w32}
-use Rattle.ca_types.specs.declared.types.ValType.{ValType, roll-ValType}
-use Rattle.ca_types.specs.declared.types.Case.{Case}
-use Rattle.ca_types.specs.declared.types.Field.{Field}
-use Rattle.ca_types.specs.declared.types.ValType.TheOpen as F
-use Rattle.ca_types.specs.declared.types.ValType.TheViews.{roll-Case, roll-Field}
-use Rattle.ca_types.specs.declared.types.ValType.TheFolds.{ind-ValType, map-ValType, map-Case, map-Field, fold-Case, fold-Field, fold-roll-ValType}
-use Rattle.ca_types.proofs.Folds.{held, fold_case, fold_field}
-use Rattle.ca_types.specs.Ends.{some_true, part_true, end_case, end_field}
+use Rattle.syntax_trees.specs.declared.types.ValType.{ValType, roll-ValType}
+use Rattle.syntax_trees.specs.declared.types.Case.{Case}
+use Rattle.syntax_trees.specs.declared.types.Field.{Field}
+use Rattle.syntax_trees.specs.declared.types.ValType.TheOpen as F
+use Rattle.syntax_trees.specs.declared.types.ValType.TheViews.{roll-Case, roll-Field}
+use Rattle.syntax_trees.specs.declared.types.ValType.TheFolds.{ind-ValType, map-ValType, map-Case, map-Field, fold-Case, fold-Field, fold-roll-ValType}
+use Rattle.syntax_trees.proofs.Folds.{held, fold_case, fold_field}
+use Rattle.syntax_trees.specs.Ends.{some_true, part_true, end_case, end_field}
 use Rattle.laid_types.specs.Handles.{borrow_step, has_borrow}
-use Rattle.ca_types.specs.declared.value.Value.{Value}
+use Rattle.syntax_trees.specs.declared.value.Value.{Value}
 use Rattle.value_lift.specs.declared.trap.LiftTrap.{LiftTrap}
 use Rattle.value_lift.specs.declared.trap.LiftWhy.TheVariants.{Bounds}
 use Rattle.value_lift.specs.Answers.{trap}
@@ -21,7 +21,7 @@ use Rattle.value_lift.specs.Bytes.{number, is_inside, is_aligned, bytes_at, widt
 use Rattle.value_lift.specs.Pieces.{part_in, plain_of, text_of}
 use Rattle.value_lift.specs.Lifting.{low}
 use Rattle.std.specs.Prelude.{nat_lt}
-use Rattle.ca_types.specs.Layout.{tag_size, aligned}
+use Rattle.laid_types.specs.Layout.{tag_size, aligned}
 use Rattle.abi_machine.specs.LiftingOver.{Use, Ledger, Came, Part, CasePart, FieldPart, What, AnOwn, ABorrow, AnEnd, in_fields, in_cases, behind_tag, case_by, field_by}
 use Rattle.abi_machine.specs.LiftingOver as over
 

@@ -4,7 +4,7 @@ use Rattle.std.specs.List.{slice_get}
 use Rattle.wasm_store.proofs.Lists.{all_at}
 use Rattle.builtin_kinds.specs.declared.EndKind.{EndKind}
 use Rattle.builtin_kinds.specs.declared.EndKind.TheVariants.{Stream, Future}
-use Rattle.ca_types.specs.declared.types.ValType.{ValType}
+use Rattle.syntax_trees.specs.declared.types.ValType.{ValType}
 use Rattle.handle_table.specs.History.{Event, IsHistory, live}
 use Rattle.tasks.specs.declared.phase.Resolution.TheVariants.{Cancelled}
 use Rattle.tasks.specs.declared.subtask_state.SubtaskState.{SubtaskState}

@@ -6,7 +6,7 @@ use Rattle.std.specs.List.{slice_get, AllByRecursion}
 use Rattle.wasm_store.proofs.Lists.{all_at}
 use Rattle.tasks.specs.Tasks.{may_cancel}
 use Rattle.laid_types.specs.Handles.{held_borrow}
-use Rattle.ca_types.specs.declared.value.Value.{Value}
+use Rattle.syntax_trees.specs.declared.value.Value.{Value}
 use Rattle.comp_graph.specs.Graph.{Graph, Lifted, func_named}
 use Rattle.script_reader.specs.declared.script.Call.{Call}
 use Rattle.script_reader.specs.declared.script.Item.{Item}

@@ -11,7 +11,7 @@ use Rattle.script_reader.specs.Script.{Script}
 use Rattle.trace_labels.specs.declared.label.Label.{Label}
 use Rattle.builtin_kinds.specs.declared.EndKind.{EndKind}
 use Rattle.builtin_kinds.specs.declared.EndKind.TheVariants.{Stream, Future}
-use Rattle.ca_types.specs.declared.types.ValType.{ValType}
+use Rattle.syntax_trees.specs.declared.types.ValType.{ValType}
 use Rattle.abi_machine.specs.World.{Host, Guest, TaskState, New, Acting, AfterCall, AfterCancel, WaitsToEnter, InLoop, InBuiltin, Exited, Channel, Task, World, new_task, first_world}
 use Rattle.abi_machine.specs.World as world
 use Rattle.abi_machine.specs.Edits.{changed_at, with_channel, channel_made}

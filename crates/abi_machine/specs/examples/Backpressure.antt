@@ -1,6 +1,6 @@
 -- Backpressure (Component Model, CanonicalABI.md, `canon backpressure.{inc,dec}`; Concurrency.md, "Backpressure").
 use Rattle.std.specs.Prelude.{ℕ, codes, false, List, [], ◌∷◌, ◌++◌, map, None}
-use Rattle.wasm_module.specs.Expr.{Expr, End}
+use Rattle.syntax_trees.specs.Expr.{Expr, End}
 use Rattle.builtin_kinds.specs.declared.PlainBuiltin.TheVariants as op
 use Rattle.comp_graph.specs.declared.graph.CanonFunc.{CanonFunc}
 use Rattle.comp_graph.specs.Graph.{Graph, no_options, canon_type}

@@ -1,6 +1,6 @@
 -- Cancellation (Component Model, Concurrency.md, "Cancellation"; CanonicalABI.md, `canon task.cancel`, `canon subtask.cancel`).
 use Rattle.std.specs.Prelude.{ℕ, codes, false, List, [], ◌∷◌, map, None}
-use Rattle.wasm_module.specs.Expr.{Expr, End}
+use Rattle.syntax_trees.specs.Expr.{Expr, End}
 use Rattle.builtin_kinds.specs.declared.PlainBuiltin.TheVariants as op
 use Rattle.comp_graph.specs.declared.graph.CanonFunc.{CanonFunc}
 use Rattle.comp_graph.specs.Graph.{Graph, canon_type}

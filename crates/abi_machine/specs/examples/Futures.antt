@@ -1,10 +1,10 @@
 -- Futures (Component Model, CanonicalABI.md, "Future State", `canon future.new`, `canon future.{read,write}`, `canon
 -- future.cancel-{read,write}`, `canon future.drop-{readable,writable}`): of bytes.
 use Rattle.std.specs.Prelude.{ℕ, false, List, [], ◌∷◌, ◌++◌, replicate, Some, None}
-use Rattle.wasm_module.specs.Expr.{Expr, End}
-use Rattle.ca_types.specs.declared.types.ValType.TheVariants.{U8}
-use Rattle.ca_types.specs.declared.types.ValType.TheViews as types
-use Rattle.ca_types.specs.declared.value.Value.TheVariants as value
+use Rattle.syntax_trees.specs.Expr.{Expr, End}
+use Rattle.syntax_trees.specs.declared.types.ValType.TheVariants.{U8}
+use Rattle.syntax_trees.specs.declared.types.ValType.TheViews as types
+use Rattle.syntax_trees.specs.declared.value.Value.TheVariants as value
 use Rattle.builtin_kinds.specs.declared.PlainBuiltin.TheVariants as op
 use Rattle.builtin_kinds.specs.declared.WaitOp.TheVariants.{Wait}
 use Rattle.builtin_kinds.specs.declared.EndKind.TheVariants.{Future}

@@ -1,13 +1,13 @@
 -- Handles of resources (Component Model, CanonicalABI.md, `canon resource.new`, `canon resource.drop`, `lift_own`, `lift_borrow`, `lower_own`,
 -- `lower_borrow`, "Table State").
 use Rattle.std.specs.Prelude.{ℕ, false, List, [], ◌∷◌, ◌++◌, map, replicate, Option, Some, None}
-use Rattle.wasm_module.specs.declared.instr.Instr.TheVariants.{LocalGet}
-use Rattle.wasm_module.specs.declared.types.FuncType as core
-use Rattle.wasm_module.specs.Expr.{Expr, End, Plain}
-use Rattle.ca_types.specs.declared.types.ValType.{ValType}
-use Rattle.ca_types.specs.declared.types.ValType.TheVariants.{U32}
-use Rattle.ca_types.specs.declared.types.ValType.TheVariants as type
-use Rattle.ca_types.specs.declared.value.Value.TheVariants as value
+use Rattle.syntax_trees.specs.declared.instr.Instr.TheVariants.{LocalGet}
+use Rattle.syntax_trees.specs.declared.module_types.FuncType as core
+use Rattle.syntax_trees.specs.Expr.{Expr, End, Plain}
+use Rattle.syntax_trees.specs.declared.types.ValType.{ValType}
+use Rattle.syntax_trees.specs.declared.types.ValType.TheVariants.{U32}
+use Rattle.syntax_trees.specs.declared.types.ValType.TheVariants as type
+use Rattle.syntax_trees.specs.declared.value.Value.TheVariants as value
 use Rattle.builtin_kinds.specs.declared.PlainBuiltin.TheVariants as op
 use Rattle.builtin_kinds.specs.declared.ResourceOp.TheVariants.{New, Drop, Rep}
 use Rattle.builtin_kinds.specs.declared.WaitOp.TheVariants.{Wait}

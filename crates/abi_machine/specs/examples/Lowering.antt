@@ -1,13 +1,13 @@
 -- Calls that are waited for (Component Model, CanonicalABI.md, `canon lift`, `canon lower`; Core 2.0, section 4.4).
 use Rattle.std.specs.Prelude.{ℕ, codes, List, [], ◌∷◌, ◌++◌, replicate, Some}
-use Rattle.wasm_module.specs.declared.instr.Instr.TheVariants.{LocalGet, Numeric}
-use Rattle.wasm_module.specs.declared.instr.NumericOp.TheVariants.{Binary}
-use Rattle.wasm_module.specs.declared.instr.Width.TheVariants.{W32}
-use Rattle.wasm_module.specs.declared.instr.BinaryOp.TheVariants.{Add}
-use Rattle.wasm_module.specs.Expr.{End, Plain}
-use Rattle.ca_types.specs.declared.types.ValType.TheVariants.{U32, String}
-use Rattle.ca_types.specs.declared.types.FuncType.{FuncType}
-use Rattle.ca_types.specs.declared.value.Value.TheVariants as value
+use Rattle.syntax_trees.specs.declared.instr.Instr.TheVariants.{LocalGet, Numeric}
+use Rattle.syntax_trees.specs.declared.instr.NumericOp.TheVariants.{Binary}
+use Rattle.syntax_trees.specs.declared.instr.Width.TheVariants.{W32}
+use Rattle.syntax_trees.specs.declared.instr.BinaryOp.TheVariants.{Add}
+use Rattle.syntax_trees.specs.Expr.{End, Plain}
+use Rattle.syntax_trees.specs.declared.types.ValType.TheVariants.{U32, String}
+use Rattle.syntax_trees.specs.declared.types.FuncType.{FuncType}
+use Rattle.syntax_trees.specs.declared.value.Value.TheVariants as value
 use Rattle.comp_graph.specs.declared.graph.CanonFunc.{CanonFunc}
 use Rattle.comp_graph.specs.Graph.{Graph, no_options}
 use Rattle.script_reader.specs.declared.script.Item.TheVariants.{Call}

@@ -2,17 +2,17 @@
 -- Canonical ABI makes, and worlds in which all is instantiated, or in which a task acts already.
 use Rattle.std.specs.Prelude.{◌≡◌, ◌+◌, ℕ, pos, codes, true, false, List, [], ◌∷◌, ◌++◌, map, length, replicate, Option, Some, None}
 use Rattle.std.specs.List.{range_with_len}
-use Rattle.wasm_module.specs.declared.types.ValType.TheVariants.{I32, I64}
-use Rattle.wasm_module.specs.declared.types.FuncType as core
-use Rattle.wasm_module.specs.declared.instr.Instr.TheVariants.{Drop, I32Const}
-use Rattle.wasm_module.specs.declared.instr.Instr.TheVariants as instr
-use Rattle.wasm_module.specs.Expr.{Expr, Plain}
+use Rattle.syntax_trees.specs.declared.module_types.ValType.TheVariants.{I32, I64}
+use Rattle.syntax_trees.specs.declared.module_types.FuncType as core
+use Rattle.syntax_trees.specs.declared.instr.Instr.TheVariants.{Drop, I32Const}
+use Rattle.syntax_trees.specs.declared.instr.Instr.TheVariants as instr
+use Rattle.syntax_trees.specs.Expr.{Expr, Plain}
 use Rattle.wasm_store.specs.Store.{Function, Own, Instance, Store}
 use Rattle.wasm_store.specs.Store as stores
 use Rattle.wasm_store.specs.Step.{start}
-use Rattle.ca_types.specs.declared.types.ValType.{ValType}
-use Rattle.ca_types.specs.declared.types.FuncType.{FuncType}
-use Rattle.ca_types.specs.declared.exports.Export.{Export}
+use Rattle.syntax_trees.specs.declared.types.ValType.{ValType}
+use Rattle.syntax_trees.specs.declared.types.FuncType.{FuncType}
+use Rattle.syntax_trees.specs.declared.exports.Export.{Export}
 use Rattle.builtin_kinds.specs.declared.ResourceOp.{ResourceOp}
 use Rattle.builtin_kinds.specs.declared.PlainBuiltin.{PlainBuiltin}
 use Rattle.builtin_kinds.specs.declared.ContextOp.{ContextOp}

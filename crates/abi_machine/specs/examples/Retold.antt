@@ -1,7 +1,7 @@
 -- What a caller's instance is told of a call while a task of it cancels the call (Component Model, CanonicalABI.md, `canon subtask.cancel`, `canon
 -- waitable-set.poll`; Concurrency.md, "Cancellation").
 use Rattle.std.specs.Prelude.{ℕ, codes, false, List, [], ◌∷◌, map, replicate, None}
-use Rattle.wasm_module.specs.Expr.{End}
+use Rattle.syntax_trees.specs.Expr.{End}
 use Rattle.wasm_store.specs.Store.{Function}
 use Rattle.builtin_kinds.specs.declared.PlainBuiltin.TheVariants as op
 use Rattle.builtin_kinds.specs.declared.WaitOp.TheVariants.{Poll}

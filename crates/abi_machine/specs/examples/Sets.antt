@@ -1,7 +1,7 @@
 -- Sets (Component Model, CanonicalABI.md, "Waitable Set State", `canon waitable-set.new`, `canon waitable-set.wait`, `canon waitable-set.drop`,
 -- `canon waitable.join`; "Table State").
 use Rattle.std.specs.Prelude.{ℕ, zero, suc, false, List, [], ◌∷◌, ◌++◌, replicate, None}
-use Rattle.wasm_module.specs.Expr.{Expr, End}
+use Rattle.syntax_trees.specs.Expr.{Expr, End}
 use Rattle.handle_table.specs.History.{Event, Add}
 use Rattle.builtin_kinds.specs.declared.PlainBuiltin.TheVariants as op
 use Rattle.builtin_kinds.specs.declared.WaitOp.TheVariants.{Wait}

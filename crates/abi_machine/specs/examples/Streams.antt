@@ -1,10 +1,10 @@
 -- Streams (Component Model, CanonicalABI.md, "Stream State", `canon stream.new`, `canon stream.{read,write}`, `canon
 -- stream.cancel-{read,write}`, `canon stream.drop-{readable,writable}`).
 use Rattle.std.specs.Prelude.{ℕ, false, List, [], ◌∷◌, ◌++◌, map, replicate, Some, None}
-use Rattle.wasm_module.specs.declared.types.FuncType as core
-use Rattle.wasm_module.specs.Expr.{Expr, End}
-use Rattle.ca_types.specs.declared.types.ValType.TheVariants.{U8, String}
-use Rattle.ca_types.specs.declared.value.Value.TheVariants as value
+use Rattle.syntax_trees.specs.declared.module_types.FuncType as core
+use Rattle.syntax_trees.specs.Expr.{Expr, End}
+use Rattle.syntax_trees.specs.declared.types.ValType.TheVariants.{U8, String}
+use Rattle.syntax_trees.specs.declared.value.Value.TheVariants as value
 use Rattle.builtin_kinds.specs.declared.PlainBuiltin.TheVariants as op
 use Rattle.builtin_kinds.specs.declared.WaitOp.TheVariants.{Wait, Poll}
 use Rattle.builtin_kinds.specs.declared.EndKind.TheVariants.{Stream}

@@ -1,11 +1,11 @@
 -- Calls that are not waited for (Component Model, CanonicalABI.md, `canon lower`, `canon task.return`, `canon waitable-set.wait`; Concurrency.md,
 -- "Waitables and Waitable Sets"): task 1 calls a function of its child that gives a number, whose place it passes.
 use Rattle.std.specs.Prelude.{ℕ, codes, false, List, [], ◌∷◌, ◌++◌, replicate, Option, Some, None}
-use Rattle.wasm_module.specs.Expr.{Expr, End}
+use Rattle.syntax_trees.specs.Expr.{Expr, End}
 use Rattle.wasm_store.specs.Store.{Store}
-use Rattle.ca_types.specs.declared.types.ValType.TheVariants.{U32}
-use Rattle.ca_types.specs.declared.types.FuncType.{FuncType}
-use Rattle.ca_types.specs.declared.value.Value.TheVariants as value
+use Rattle.syntax_trees.specs.declared.types.ValType.TheVariants.{U32}
+use Rattle.syntax_trees.specs.declared.types.FuncType.{FuncType}
+use Rattle.syntax_trees.specs.declared.value.Value.TheVariants as value
 use Rattle.builtin_kinds.specs.declared.PlainBuiltin.TheVariants as op
 use Rattle.builtin_kinds.specs.declared.WaitOp.TheVariants.{Wait}
 use Rattle.comp_graph.specs.declared.graph.Options.{Options}

@@ -1,11 +1,11 @@
 -- Streams between instances (Component Model, CanonicalABI.md, `lift_stream`, `lower_stream`, `canon stream.{read,write}`): the readable end is
 -- passed to a child, which waits for what it reads.
 use Rattle.std.specs.Prelude.{ℕ, codes, List, [], ◌∷◌, ◌++◌, replicate, Some, None}
-use Rattle.wasm_module.specs.Expr.{Expr, End}
-use Rattle.ca_types.specs.declared.types.ValType.{ValType}
-use Rattle.ca_types.specs.declared.types.ValType.TheVariants.{U8, String}
-use Rattle.ca_types.specs.declared.types.ValType.TheViews as types
-use Rattle.ca_types.specs.declared.value.Value.TheVariants as value
+use Rattle.syntax_trees.specs.Expr.{Expr, End}
+use Rattle.syntax_trees.specs.declared.types.ValType.{ValType}
+use Rattle.syntax_trees.specs.declared.types.ValType.TheVariants.{U8, String}
+use Rattle.syntax_trees.specs.declared.types.ValType.TheViews as types
+use Rattle.syntax_trees.specs.declared.value.Value.TheVariants as value
 use Rattle.builtin_kinds.specs.declared.EndKind.TheVariants.{Stream}
 use Rattle.comp_graph.specs.declared.graph.EndOp.TheVariants as end
 use Rattle.comp_graph.specs.declared.graph.CanonFunc.{CanonFunc}

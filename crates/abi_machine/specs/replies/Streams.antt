@@ -2,8 +2,8 @@
 -- stream.drop-{readable,writable}`), of which futures have the same: a new one with both its ends, reads and writes, their cancelling, and the
 -- drop of an end.
 use Rattle.std.specs.Prelude.{ℕ, ◌+◌, ◌*◌, ◌%◌, ◌^◌, nat_eq, nat_lt, nat_le, Bool, false, not, slice_index, if◌then◌else◌, List, [], ◌∷◌, length, Option, Some, None}
-use Rattle.ca_types.specs.declared.types.ValType.{ValType}
-use Rattle.ca_types.specs.Layout.{laid}
+use Rattle.syntax_trees.specs.declared.types.ValType.{ValType}
+use Rattle.laid_types.specs.Layout.{laid}
 use Rattle.builtin_kinds.specs.declared.EndKind.{EndKind}
 use Rattle.builtin_kinds.specs.declared.EndKind.TheVariants.{Future}
 use Rattle.stream_ends.specs.declared.side.Side.{Side}

@@ -1,7 +1,7 @@
 -- Tasks (Component Model, CanonicalABI.md, `canon task.return`, `canon task.cancel` and `canon yield`): how a task resolves, and how it lets others
 -- run.
 use Rattle.std.specs.Prelude.{ℕ, nat_eq, Bool, true, not, ◌&&◌, if◌then◌else◌, List, [], ◌∷◌, Option, Some}
-use Rattle.ca_types.specs.declared.types.ValType.{ValType}
+use Rattle.syntax_trees.specs.declared.types.ValType.{ValType}
 use Rattle.tasks.specs.declared.phase.Resolution.TheVariants.{Cancelled}
 use Rattle.tasks.specs.Tasks.{asking_fault, cancel_fault, is_asked}
 use Rattle.comp_graph.specs.declared.graph.Options.{Options}

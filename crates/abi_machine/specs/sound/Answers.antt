@@ -3,7 +3,7 @@
 -- what is kept of results are such words.
 use Rattle.std.specs.Prelude.{◌≡◌, ◌<◌, ◌^◌, ℕ, true, false, List, [], ◌∷◌, Option, Some, None}
 use Rattle.std.specs.List.{slice_get, AllByRecursion}
-use Rattle.wasm_module.specs.declared.types.ValType.TheVariants.{I32}
+use Rattle.syntax_trees.specs.declared.module_types.ValType.TheVariants.{I32}
 use Rattle.wasm_numbers.specs.Types.{AreWords}
 use Rattle.comp_graph.specs.declared.graph.CanonFunc.{CanonFunc}
 use Rattle.comp_graph.specs.Graph.{Graph, canon_type}

@@ -4,9 +4,9 @@
 use Rattle.std.specs.Prelude.{◌≡◌, ℕ, List, Some}
 use Rattle.std.specs.List.{slice_get, AllZip}
 use Rattle.std.specs.Option.{IfSome}
-use Rattle.wasm_module.specs.declared.types.FuncType as core
+use Rattle.syntax_trees.specs.declared.module_types.FuncType as core
 use Rattle.wasm_store.specs.Store.{Function, type_of, Store}
-use Rattle.ca_types.specs.declared.exports.Export.{Export}
+use Rattle.syntax_trees.specs.declared.exports.Export.{Export}
 use Rattle.comp_graph.specs.declared.graph.FuncRef.{FuncRef}
 use Rattle.comp_graph.specs.Needs.{lift_type, post_return_type, callback_type}
 use Rattle.comp_graph.specs.Needs as needs

@@ -5,8 +5,8 @@ use Rattle.std.specs.Prelude.{◌≡◌, ◌<◌, ◌≤◌, ◌⊎◌, ℕ, tru
 use Rattle.std.specs.List.{slice_get}
 use Rattle.wasm_store.specs.Store.{Store}
 use Rattle.wasm_store.specs.Stack.{Stack}
-use Rattle.ca_types.specs.declared.types.ValType.{ValType}
-use Rattle.ca_types.specs.declared.value.Value.{Value}
+use Rattle.syntax_trees.specs.declared.types.ValType.{ValType}
+use Rattle.syntax_trees.specs.declared.value.Value.{Value}
 use Rattle.handle_table.specs.History.{live_count, most_live}
 use Rattle.choices.specs.Drawing.{drawn}
 use Rattle.tasks.specs.declared.phase.Resolution.{Resolution}

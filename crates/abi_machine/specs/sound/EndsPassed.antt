@@ -4,8 +4,8 @@
 -- once at most. The script passes none.
 use Rattle.std.specs.Prelude.{◌≡◌, ◌⊎◌, ℕ, List, [], ◌∷◌, Option, Some, None}
 use Rattle.std.specs.List.{slice_get, flat_map, AllByRecursion}
-use Rattle.ca_types.specs.declared.value.Value.{Value, fold-Value}
-use Rattle.ca_types.specs.declared.value.Value.TheOpen.{Value-F}
+use Rattle.syntax_trees.specs.declared.value.Value.{Value, fold-Value}
+use Rattle.syntax_trees.specs.declared.value.Value.TheOpen.{Value-F}
 use Rattle.builtin_kinds.specs.declared.EndKind.{EndKind}
 use Rattle.builtin_kinds.specs.declared.EndKind.TheVariants.{Stream, Future}
 use Rattle.stream_ends.specs.declared.side.Side.TheVariants.{Reader, Writer}

@@ -2,8 +2,8 @@
 -- each imports was made before it, and each has what its module says.
 use Rattle.std.specs.Prelude.{◌≡◌, ℕ, List, [], ◌++◌, length, drop, Some}
 use Rattle.std.specs.List.{slice_get, AllByRecursion}
-use Rattle.wasm_module.specs.declared.types.Limits.{Limits}
-use Rattle.wasm_module.specs.declared.module.ModuleTree.{ModuleTree}
+use Rattle.syntax_trees.specs.declared.module_types.Limits.{Limits}
+use Rattle.syntax_trees.specs.declared.module.ModuleTree.{ModuleTree}
 use Rattle.wasm_typing.specs.Modules.{Typed}
 use Rattle.wasm_memory.specs.Memories.{MemoryState, page_count}
 use Rattle.wasm_store.specs.Store.{Table, Instance, Store, table_at, memory_at}

@@ -1,9 +1,9 @@
 -- Where lowerings ask for places (Component Model, CanonicalABI.md, "Canonical ABI Options": `realloc`, "Storing", "Flat Lowering"): only where a function
 -- gives them. So of what rules look up rules for core code are left, the word of a realloc, and what a blocked task's copy waits at.
 use Rattle.std.specs.Prelude.{◌≡◌, ℕ, Bool, true, false, List, Option, IsSome}
-use Rattle.ca_types.specs.declared.value.Value.{Value, fold-Value}
-use Rattle.ca_types.specs.declared.value.Value.TheOpen.{Value-F}
-use Rattle.ca_types.specs.Ends.{some_true, part_true}
+use Rattle.syntax_trees.specs.declared.value.Value.{Value, fold-Value}
+use Rattle.syntax_trees.specs.declared.value.Value.TheOpen.{Value-F}
+use Rattle.syntax_trees.specs.Ends.{some_true, part_true}
 use Rattle.comp_graph.specs.Graph.{Graph}
 use Rattle.script_reader.specs.Script.{Script}
 use Rattle.trace_labels.specs.declared.label.Label.{Label}

@@ -2,7 +2,7 @@
 -- "Cancellation"): beside what is said of each change, what the task is that it is of, what was told, and what is under way at an end.
 use Rattle.std.specs.Prelude.{◌≡◌, ◌<◌, ◌≤◌, ◌⊎◌, ◌+◌, ℕ, true, false, List, [], length, Option, Some, None, IsSome}
 use Rattle.std.specs.List.{slice_get}
-use Rattle.ca_types.specs.declared.types.ValType.{ValType}
+use Rattle.syntax_trees.specs.declared.types.ValType.{ValType}
 use Rattle.laid_types.specs.Handles.{held_borrow}
 use Rattle.handle_table.specs.History.{live_count, most_live}
 use Rattle.choices.specs.Drawing.{drawn}

@@ -2,12 +2,12 @@
 -- from bytes is of its type, and a plan that lowers a value of a type gives words of the core types which that type becomes.
 use Rattle.std.specs.Prelude.{◌≡◌, ◌≤◌, ◌+◌, ◌*◌, ℕ, Bool, if◌then◌else◌, List, [], map, length, Option, Some, None, Ok, Err}
 use Rattle.std.specs.List.{AllByRecursion}
-use Rattle.ca_types.specs.declared.types.ValType.{ValType}
-use Rattle.ca_types.specs.declared.types.FuncType.{FuncType}
-use Rattle.ca_types.specs.declared.value.Value.{Value}
-use Rattle.ca_types.specs.Flat.{flat, returned}
-use Rattle.ca_types.specs.Layout.{laid}
-use Rattle.wasm_module.specs.declared.types.ValType as core
+use Rattle.syntax_trees.specs.declared.types.ValType.{ValType}
+use Rattle.syntax_trees.specs.declared.types.FuncType.{FuncType}
+use Rattle.syntax_trees.specs.declared.value.Value.{Value}
+use Rattle.syntax_trees.specs.Flat.{flat, returned}
+use Rattle.laid_types.specs.Layout.{laid}
+use Rattle.syntax_trees.specs.declared.module_types.ValType as core
 use Rattle.wasm_numbers.specs.Types.{AreWords}
 use Rattle.handle_table.specs.History.{Event, IsHistory}
 use Rattle.comp_graph.specs.declared.graph.Options.{Options}

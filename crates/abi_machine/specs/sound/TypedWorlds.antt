@@ -3,12 +3,12 @@
 -- taken and bytes inside, representations and words of context are i32, and what is kept of results is words that the callers take.
 use Rattle.std.specs.Prelude.{◌≡◌, ◌<◌, ◌≤◌, ◌+◌, ◌^◌, ◌⊎◌, ℕ, false, slice_index, List, [], ◌∷◌, map, length, Option, Some, None, IsSome}
 use Rattle.std.specs.List.{slice_get}
-use Rattle.wasm_module.specs.declared.types.ValType.TheVariants.{I32}
-use Rattle.wasm_module.specs.declared.types.ValType as core_val
+use Rattle.syntax_trees.specs.declared.module_types.ValType.TheVariants.{I32}
+use Rattle.syntax_trees.specs.declared.module_types.ValType as core_val
 use Rattle.wasm_numbers.specs.Types.{AreWords}
 use Rattle.wasm_store.specs.Store.{Function, type_of, Store}
 use Rattle.wasm_store.specs.Typed.{StoreTyped}
-use Rattle.ca_types.specs.declared.types.ValType.{ValType}
+use Rattle.syntax_trees.specs.declared.types.ValType.{ValType}
 use Rattle.tasks.specs.declared.phase.Cancellation.TheVariants.{NotAsked}
 use Rattle.comp_graph.specs.declared.graph.CanonFunc.{CanonFunc}
 use Rattle.comp_graph.specs.Needs.{lift_type, post_return_type, realloc_type}

@@ -4,9 +4,9 @@
 use Rattle.std.specs.Prelude.{◌≡◌, ◌<◌, ◌^◌, ℕ, nat_lt, Bool, true, false, not, List, map, Option, Some}
 use Rattle.std.specs.List.{slice_get, AllByRecursion}
 use Rattle.handle_table.specs.History.{live}
-use Rattle.ca_types.specs.declared.value.Value.{Value, fold-Value}
-use Rattle.ca_types.specs.declared.value.Value.TheOpen.{Value-F}
-use Rattle.ca_types.specs.Ends.{some_true, part_true}
+use Rattle.syntax_trees.specs.declared.value.Value.{Value, fold-Value}
+use Rattle.syntax_trees.specs.declared.value.Value.TheOpen.{Value-F}
+use Rattle.syntax_trees.specs.Ends.{some_true, part_true}
 use Rattle.wasm_numbers.specs.Types.{AreWords}
 use Rattle.comp_graph.specs.declared.graph.CanonFunc.{CanonFunc}
 use Rattle.comp_graph.specs.Graph.{Graph, canon_type}

@@ -1,8 +1,8 @@
 -- Where all units are used an alternative is still chosen, and a cancellation still asked for; what comes behind them ends the run.
 use Rattle.std.proofs.Common.{◌≡◌, [], ◌∷◌, None, refl, ap}
-use Rattle.wasm_module.specs.declared.instr.Instr.TheVariants.{Drop}
-use Rattle.wasm_module.specs.declared.instr.Instr.TheVariants as instr
-use Rattle.wasm_module.specs.Expr.{End, Plain}
+use Rattle.syntax_trees.specs.declared.instr.Instr.TheVariants.{Drop}
+use Rattle.syntax_trees.specs.declared.instr.Instr.TheVariants as instr
+use Rattle.syntax_trees.specs.Expr.{End, Plain}
 use Rattle.wasm_store.specs.Stack.{Running}
 use Rattle.comp_graph.specs.Graph.{Graph}
 use Rattle.script_reader.specs.Script.{Script}

@@ -1,8 +1,8 @@
 -- A copy for which a task waits is told to that task alone, also where its end is a member of a set.
 use Rattle.std.proofs.Common.{◌≡◌, true, false, [], ◌∷◌, Some, None, refl, ap}
-use Rattle.wasm_module.specs.declared.instr.Instr.TheVariants.{Drop}
-use Rattle.wasm_module.specs.declared.instr.Instr.TheVariants as instr
-use Rattle.wasm_module.specs.Expr.{End, Plain}
+use Rattle.syntax_trees.specs.declared.instr.Instr.TheVariants.{Drop}
+use Rattle.syntax_trees.specs.declared.instr.Instr.TheVariants as instr
+use Rattle.syntax_trees.specs.Expr.{End, Plain}
 use Rattle.wasm_store.specs.Stack.{Running}
 use Rattle.handle_table.specs.History.{Add}
 use Rattle.tasks.specs.declared.phase.Resolution.TheVariants.{Returned}

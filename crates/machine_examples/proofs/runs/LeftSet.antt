@@ -1,7 +1,7 @@
 -- An end that is dropped leaves its set, which may be dropped then.
 use Rattle.std.proofs.Common.{◌≡◌, true, false, [], ◌∷◌, Some, None, refl}
-use Rattle.wasm_module.specs.declared.instr.Instr.TheVariants as instr
-use Rattle.wasm_module.specs.Expr.{End, Plain}
+use Rattle.syntax_trees.specs.declared.instr.Instr.TheVariants as instr
+use Rattle.syntax_trees.specs.Expr.{End, Plain}
 use Rattle.wasm_store.specs.Stack.{Running}
 use Rattle.handle_table.specs.History.{Add, Remove}
 use Rattle.tasks.specs.declared.phase.Resolution.TheVariants.{Returned}

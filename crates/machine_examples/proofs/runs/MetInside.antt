@@ -1,10 +1,10 @@
 -- A read of no text meets no write of its own instance either.
 use Rattle.std.proofs.Common.{◌≡◌, true, false, [], ◌∷◌, Bool, Some, None, refl, ap}
-use Rattle.wasm_module.specs.declared.instr.Instr.TheVariants.{Drop}
-use Rattle.wasm_module.specs.declared.instr.Instr.TheVariants as instr
-use Rattle.wasm_module.specs.Expr.{End, Plain}
+use Rattle.syntax_trees.specs.declared.instr.Instr.TheVariants.{Drop}
+use Rattle.syntax_trees.specs.declared.instr.Instr.TheVariants as instr
+use Rattle.syntax_trees.specs.Expr.{End, Plain}
 use Rattle.wasm_store.specs.Stack.{Running}
-use Rattle.ca_types.specs.declared.types.ValType.TheVariants as leaves
+use Rattle.syntax_trees.specs.declared.types.ValType.TheVariants as leaves
 use Rattle.handle_table.specs.History.{Add}
 use Rattle.builtin_kinds.specs.declared.EndKind.TheVariants.{Stream}
 use Rattle.stream_ends.specs.declared.side.Side.TheVariants.{Reader, Writer}

@@ -1,6 +1,6 @@
 -- Backpressure rises to 65,535.
 use Rattle.std.proofs.Common.{◌≡◌, [], ◌∷◌, None, refl}
-use Rattle.wasm_module.specs.Expr.{End}
+use Rattle.syntax_trees.specs.Expr.{End}
 use Rattle.wasm_store.specs.Stack.{Running}
 use Rattle.comp_graph.specs.Graph.{Graph, no_options}
 use Rattle.script_reader.specs.Script.{Script}

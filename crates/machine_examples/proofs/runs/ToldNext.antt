@@ -1,6 +1,6 @@
 -- A task whose function is lifted without `async` does not go on where its cancellation is asked; the next `yield` that a cancellation ends tells it.
 use Rattle.std.proofs.Common.{◌≡◌, [], ◌∷◌, Some, None, refl, ap}
-use Rattle.wasm_module.specs.Expr.{End}
+use Rattle.syntax_trees.specs.Expr.{End}
 use Rattle.wasm_store.specs.Stack.{Running}
 use Rattle.tasks.specs.declared.phase.Resolution.TheVariants.{Returned}
 use Rattle.tasks.specs.declared.phase.Cancellation.TheVariants as cancellation

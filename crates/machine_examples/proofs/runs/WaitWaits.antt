@@ -1,7 +1,7 @@
 -- A set is not dropped while a task waits on it, in its loop or in a wait.
 use Rattle.std.proofs.Common.{◌≡◌, [], ◌∷◌, None, refl, ap}
-use Rattle.wasm_module.specs.declared.instr.Instr.TheVariants.{Drop}
-use Rattle.wasm_module.specs.Expr.{End, Plain}
+use Rattle.syntax_trees.specs.declared.instr.Instr.TheVariants.{Drop}
+use Rattle.syntax_trees.specs.Expr.{End, Plain}
 use Rattle.wasm_store.specs.Stack.{Running}
 use Rattle.handle_table.specs.History.{Add}
 use Rattle.comp_graph.specs.Graph.{Graph, no_options}

@@ -1,7 +1,7 @@
 -- Actions of a graph's plan keep stacks typed, where the modules of its core instances are valid.
 use Rattle.std.proofs.Common.{◌≡◌, ◌⊎◌, inl, inr, ℕ, zero, suc, Bool, true, false, if◌then◌else◌, List, [], ◌∷◌, ◌++◌, length, refl, sym, subst, Option, Some, None, ◌+◌, arith}
 use Rattle.std.specs.List.{slice_get}
-use Rattle.wasm_module.specs.declared.module.ModuleTree.{ModuleTree}
+use Rattle.syntax_trees.specs.declared.module.ModuleTree.{ModuleTree}
 use Rattle.wasm_typing.specs.Modules.{Typed}
 use Rattle.wasm_store.specs.Store.{Instance, Store}
 use Rattle.wasm_store.specs.Stack.{Stack}

@@ -1,7 +1,7 @@
 -- Moves and turns keep stacks typed, and lend no handle more often.
 use Rattle.std.proofs.Common.{◌≡◌, ℕ, List, length, Option, Some, None, map, refl}
 use Rattle.std.specs.List.{slice_get}
-use Rattle.ca_types.specs.declared.exports.Export.{Export}
+use Rattle.syntax_trees.specs.declared.exports.Export.{Export}
 use Rattle.script_reader.specs.declared.script.Call.{Call}
 use Rattle.script_reader.specs.declared.script.Item.{Item}
 use Rattle.script_reader.specs.declared.script.Item.TheVariants as item

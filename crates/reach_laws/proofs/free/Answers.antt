@@ -3,8 +3,8 @@ use Rattle.std.proofs.Common.{◌≡◌, ℕ, zero, suc, ◌+◌, ◌-◌, ◌*�
 use Rattle.std.specs.Prelude.{slice_index, replicate}
 use Rattle.std.specs.List.{slice_get}
 use Rattle.handle_table.specs.History.{next_index}
-use Rattle.ca_types.specs.Layout.{laid}
-use Rattle.ca_types.specs.declared.types.ValType.{ValType}
+use Rattle.laid_types.specs.Layout.{laid}
+use Rattle.syntax_trees.specs.declared.types.ValType.{ValType}
 use Rattle.builtin_kinds.specs.declared.EndKind.{EndKind}
 use Rattle.builtin_kinds.specs.declared.PlainBuiltin.{PlainBuiltin}
 use Rattle.builtin_kinds.specs.declared.PlainBuiltin.TheVariants as plain

@@ -6,8 +6,8 @@ use Rattle.std.specs.List.{slice_get}
 use Rattle.wasm_store.specs.Store.{found_at}
 use Rattle.wasm_store.specs.Stack.{Stack, Running, AtHost, Given}
 use Rattle.wasm_store.specs.Step.{start}
-use Rattle.ca_types.specs.declared.value.Value.{Value}
-use Rattle.ca_types.specs.declared.value.Value.TheViews as value
+use Rattle.syntax_trees.specs.declared.value.Value.{Value}
+use Rattle.syntax_trees.specs.declared.value.Value.TheViews as value
 use Rattle.res_handles.specs.declared.handle.Handle.{Handle}
 use Rattle.res_handles.specs.declared.handle.Ownership.{Ownership}
 use Rattle.res_handles.specs.declared.handle.Ownership.TheVariants.{Own, Borrow}

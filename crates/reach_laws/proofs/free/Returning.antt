@@ -11,7 +11,7 @@ use Rattle.wasm_store.specs.Step.{Move, Goes, Traps, resume}
 use Rattle.wasm_store.specs.Step as core
 use Rattle.wasm_store.proofs.Lists.{all_at}
 use Rattle.lowering_laws.proofs.Holding.{IsHeld, MoveHolds, next_holds, by_free_moves}
-use Rattle.ca_types.specs.declared.types.ValType.{ValType}
+use Rattle.syntax_trees.specs.declared.types.ValType.{ValType}
 use Rattle.entry_gate.specs.Callbacks.{callback_of}
 use Rattle.entry_gate.specs.declared.callback.BadCode.{BadCode}
 use Rattle.entry_gate.specs.declared.callback.Next.{Next}

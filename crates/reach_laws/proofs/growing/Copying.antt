@@ -5,9 +5,9 @@ use Rattle.std.proofs.lemmas.Nat.{mul-le}
 use Rattle.std.specs.Prelude.{slice_index, nat_eq, nat_le, nat_lt}
 use Rattle.wasm_numbers.specs.Types.{AreWords}
 use Rattle.wasm_store.specs.Store.{Store}
-use Rattle.ca_types.specs.declared.types.ValType.{ValType}
-use Rattle.ca_types.specs.declared.value.Value.{Value}
-use Rattle.ca_types.specs.Layout.{laid}
+use Rattle.syntax_trees.specs.declared.types.ValType.{ValType}
+use Rattle.syntax_trees.specs.declared.value.Value.{Value}
+use Rattle.laid_types.specs.Layout.{laid}
 use Rattle.builtin_kinds.specs.declared.EndKind.{EndKind}
 use Rattle.stream_ends.specs.declared.side.Side.{Side}
 use Rattle.stream_ends.specs.declared.side.Side.TheVariants.{Reader, Writer}

@@ -1,6 +1,6 @@
 -- Elements that go over: who runs, and how many tasks there are, stay.
 use Rattle.std.specs.Prelude.{ℕ, [], ◌∷◌, Option}
-use Rattle.ca_types.specs.declared.types.ValType.{ValType}
+use Rattle.syntax_trees.specs.declared.types.ValType.{ValType}
 use Rattle.builtin_kinds.specs.declared.EndKind.{EndKind}
 use Rattle.stream_ends.specs.declared.open_copy.By.TheVariants as by
 use Rattle.stream_ends.specs.declared.open_copy.OpenCopy.{OpenCopy}

@@ -1,8 +1,8 @@
 -- Values are lowered: who runs, and how many tasks there are, stay.
 use Rattle.std.proofs.Common.{refl, ℕ, List}
-use Rattle.ca_types.specs.declared.types.ValType.{ValType}
-use Rattle.ca_types.specs.declared.value.Value.{Value}
-use Rattle.ca_types.specs.Fits.{fits}
+use Rattle.syntax_trees.specs.declared.types.ValType.{ValType}
+use Rattle.syntax_trees.specs.declared.value.Value.{Value}
+use Rattle.syntax_trees.specs.Fits.{fits}
 use Rattle.laid_types.specs.Known.{Numbered}
 use Rattle.value_lower.specs.Plan.{Plan}
 use Rattle.comp_graph.specs.Graph.{Graph}

@@ -3,10 +3,10 @@ use Rattle.std.proofs.Common.{◌≡◌, ◌∙◌, ◌+◌, ℕ, nat_eq, Bool, 
 use Rattle.std.specs.Prelude.{Err}
 use Rattle.std.specs.List.{slice_get}
 use Rattle.std.proofs.lemmas.Bool.{cases_eq, ne_eqb}
-use Rattle.ca_types.specs.declared.value.Value.{Value, fold-Value}
-use Rattle.ca_types.specs.declared.value.Value.TheOpen as V
-use Rattle.ca_types.specs.declared.value.Value.TheViews.{roll-Value}
-use Rattle.ca_types.specs.declared.value.Value.TheFolds.{map-Value, ind-Value, fold-roll-Value}
+use Rattle.syntax_trees.specs.declared.value.Value.{Value, fold-Value}
+use Rattle.syntax_trees.specs.declared.value.Value.TheOpen as V
+use Rattle.syntax_trees.specs.declared.value.Value.TheViews.{roll-Value}
+use Rattle.syntax_trees.specs.declared.value.Value.TheFolds.{map-Value, ind-Value, fold-roll-Value}
 use Rattle.res_handles.specs.Calls.{is_defined}
 use Rattle.tasks.specs.declared.event.TaskEvent.TheVariants as event
 use Rattle.tasks.specs.declared.event.TaskTrap.{TaskTrap}

@@ -1,8 +1,8 @@
 -- Elements that go over keep all marks; and so does whatever is passed.
 use Rattle.std.proofs.Common.{◌≡◌, ◌∙◌, ◌+◌, ◌-◌, ℕ, Bool, true, false, if◌then◌else◌, List, [], ◌∷◌, map, length, Option, Some, None, refl, sym, ap, subst, arith}
 use Rattle.std.specs.List.{slice_get}
-use Rattle.ca_types.specs.declared.types.ValType.{ValType}
-use Rattle.ca_types.specs.declared.value.Value.{Value}
+use Rattle.syntax_trees.specs.declared.types.ValType.{ValType}
+use Rattle.syntax_trees.specs.declared.value.Value.{Value}
 use Rattle.laid_types.specs.Handles.{has_borrow}
 use Rattle.laid_types.specs.Known.{Numbered, numbered_at}
 use Rattle.builtin_kinds.specs.declared.EndKind.{EndKind}

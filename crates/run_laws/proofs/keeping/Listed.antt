@@ -1,8 +1,8 @@
 -- Which indices lifting lends: none, where a type holds no borrow.
 use Rattle.std.proofs.Common.{◌≡◌, ◌∙◌, ◌≤◌, ℕ, Bool, true, false, if◌then◌else◌, List, [], ◌∷◌, ◌++◌, length, refl, ap, sym, subst}
 use Rattle.std.specs.Prelude.{nat_le, ◌-◌, Result, Ok, Err}
-use Rattle.ca_types.specs.declared.types.ValType.{ValType}
-use Rattle.ca_types.specs.Flat.{flat}
+use Rattle.syntax_trees.specs.declared.types.ValType.{ValType}
+use Rattle.syntax_trees.specs.Flat.{flat}
 use Rattle.laid_types.specs.Handles.{has_borrow}
 use Rattle.builtin_kinds.specs.declared.EndKind.{EndKind}
 use Rattle.comp_graph.specs.Graph.{ends_type}

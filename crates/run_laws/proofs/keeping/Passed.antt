@@ -1,9 +1,9 @@
 -- Values that are passed on: arguments, results and elements that are lowered, in the midst of a passing.
 use Rattle.std.proofs.Common.{◌≡◌, ◌∙◌, ◌+◌, ◌-◌, nat_lt, ℕ, Bool, true, false, ◌||◌, if◌then◌else◌, List, [], ◌∷◌, map, length, Option, Some, None, refl, sym, ap, subst, arith}
 use Rattle.std.specs.List.{slice_get}
-use Rattle.ca_types.specs.declared.types.ValType.{ValType}
-use Rattle.ca_types.specs.declared.value.Value.{Value}
-use Rattle.ca_types.specs.Fits.{fits}
+use Rattle.syntax_trees.specs.declared.types.ValType.{ValType}
+use Rattle.syntax_trees.specs.declared.value.Value.{Value}
+use Rattle.syntax_trees.specs.Fits.{fits}
 use Rattle.laid_types.specs.Handles.{has_borrow}
 use Rattle.laid_types.specs.Known.{Numbered, numbered_at}
 use Rattle.comp_graph.specs.declared.graph.CanonFunc.{CanonFunc}

@@ -1,8 +1,8 @@
 -- Values that are passed, of every kind, keep all marks.
 use Rattle.std.proofs.Common.{◌≡◌, ◌∙◌, ℕ, Bool, true, false, not, if◌then◌else◌, List, [], ◌∷◌, Option, Some, None, refl, sym, ap, subst}
 use Rattle.std.specs.List.{slice_get}
-use Rattle.ca_types.specs.declared.types.ValType.{ValType}
-use Rattle.ca_types.specs.declared.value.Value.{Value}
+use Rattle.syntax_trees.specs.declared.types.ValType.{ValType}
+use Rattle.syntax_trees.specs.declared.value.Value.{Value}
 use Rattle.laid_types.specs.Handles.{has_borrow}
 use Rattle.laid_types.specs.Known.{Numbered, numbered_at}
 use Rattle.entry_gate.specs.declared.kind.Kind.{Kind}

@@ -1,7 +1,7 @@
 -- Actions of a graph's plan: lists of tasks stay as they follow from the tasks.
 use Rattle.std.proofs.Common.{ℕ, ◌+◌, List, [], ◌∷◌, ◌++◌, length, refl, Option, Some, None}
 use Rattle.std.specs.List.{slice_get}
-use Rattle.wasm_module.specs.declared.module.ModuleTree.{ModuleTree}
+use Rattle.syntax_trees.specs.declared.module.ModuleTree.{ModuleTree}
 use Rattle.wasm_store.specs.Instantiation.{External, Instantiation, instantiated}
 use Rattle.wasm_store.specs.Instantiation as core
 use Rattle.wasm_store.specs.Matching.{imports_fit}

@@ -3,7 +3,7 @@ use Rattle.std.proofs.Common.{◌≡◌, ℕ, zero, suc, ◌+◌, Bool, true, fa
 use Rattle.std.specs.Prelude.{is_some}
 use Rattle.std.specs.List.{slice_get, filter, filter_map, flat_map, range_with_len, AllZip}
 use Rattle.std.specs.Option.{option_map}
-use Rattle.ca_types.specs.declared.types.ValType.{ValType}
+use Rattle.syntax_trees.specs.declared.types.ValType.{ValType}
 use Rattle.wasm_store.specs.Store.{Store}
 use Rattle.wasm_store.specs.Stack.{Stack}
 use Rattle.handle_table.specs.History.{Event, live, greatest, slots_of}

@@ -1,6 +1,6 @@
 -- Where a run rests, and so much is carried, all that a step asks of a move and of a turn is so.
 use Rattle.std.proofs.Common.{◌≡◌, inl, inr, ℕ, Bool, true, false, List, [], ◌∷◌, refl, sym, subst, Some}
-use Rattle.ca_types.specs.declared.types.ValType.{ValType}
+use Rattle.syntax_trees.specs.declared.types.ValType.{ValType}
 use Rattle.wasm_store.specs.Stack.{Stack}
 use Rattle.wasm_store.proofs.Lists.{all_at}
 use Rattle.comp_graph.specs.declared.graph.CanonFunc.{CanonFunc}

@@ -1,7 +1,7 @@
 -- What is asked where a task returns is so where it called `task.return` in a world that a run reaches.
 use Rattle.std.proofs.Common.{◌≡◌, ℕ, true, false, is_some, List, refl, sym, ap, ◌∙◌, subst, Option, Some}
 use Rattle.std.specs.List.{slice_get}
-use Rattle.ca_types.specs.declared.types.ValType.{ValType}
+use Rattle.syntax_trees.specs.declared.types.ValType.{ValType}
 use Rattle.wasm_store.specs.Stack.{Stack}
 use Rattle.wasm_store.proofs.Lists.{all_at}
 use Rattle.entry_gate.specs.declared.kind.Kind.TheVariants.{Sync}

@@ -1,6 +1,6 @@
 -- All that is asked of a move.
 use Rattle.std.proofs.Common.{◌≡◌, List, refl, sym, ap, ◌∙◌, subst}
-use Rattle.ca_types.specs.declared.types.ValType.{ValType}
+use Rattle.syntax_trees.specs.declared.types.ValType.{ValType}
 use Rattle.wasm_store.specs.Stack.{Stack}
 use Rattle.script_reader.specs.Script.{Script}
 use Rattle.programs.specs.declared.program.Program.{Program}

@@ -1,9 +1,9 @@
 -- A module that is valid has one memory at most, so options of a graph that can run name the first one.
 use Rattle.std.proofs.Common.{◌≡◌, inl, inr, ◌<◌, ◌≤◌, ◌+◌, ℕ, List, [], ◌∷◌, ◌++◌, length, length-append, refl, sym, ap, ◌∙◌, subst, arith, Option, Some, None}
 use Rattle.std.specs.List.{slice_get, AllByRecursion}
-use Rattle.ca_base.specs.Names.{first_named}
-use Rattle.ca_types.specs.declared.exports.Export.{Export}
-use Rattle.wasm_module.specs.Spaces.{imported_memories}
+use Rattle.syntax_trees.specs.Names.{first_named}
+use Rattle.syntax_trees.specs.declared.exports.Export.{Export}
+use Rattle.wasm_typing.specs.Spaces.{imported_memories}
 use Rattle.wasm_typing.specs.Modules.{Typed}
 use Rattle.wasm_store.proofs.Lists.{all_at}
 use Rattle.wasm_store.proofs.Zips.{zip_at}

@@ -2,8 +2,8 @@
 -- room where a wait is to put it, and a destructor is called with one 32-bit word.
 use Rattle.std.proofs.Common.{◌≡◌, ◌⊎◌, inl, inr, ◌≤◌, ◌<◌, ◌+◌, ◌^◌, ℕ, Bool, if◌then◌else◌, is_some, List, [], ◌∷◌, length, refl, sym, ap, subst, Some, None}
 use Rattle.std.proofs.lemmas.Bool.{lt-ltb}
-use Rattle.wasm_module.specs.declared.types.ValType.TheVariants.{I32}
-use Rattle.wasm_module.specs.declared.types.ValType as core_val
+use Rattle.syntax_trees.specs.declared.module_types.ValType.TheVariants.{I32}
+use Rattle.syntax_trees.specs.declared.module_types.ValType as core_val
 use Rattle.wasm_numbers.specs.Types.{AreWords}
 use Rattle.wasm_store.proofs.Lists.{all_at}
 use Rattle.builtin_kinds.specs.declared.ResourceOp.TheVariants as resource_op

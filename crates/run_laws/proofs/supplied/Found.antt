@@ -1,7 +1,7 @@
 -- What is found of what is kept is found in the world for which it stands, and back: tasks, instances, what stands in their tables, and calls.
 use Rattle.std.proofs.Common.{◌≡◌, ℕ, is_some, List, refl, sym, ap, ◌∙◌, subst, Option, Some, None}
 use Rattle.std.specs.List.{slice_get}
-use Rattle.ca_types.specs.declared.types.ValType.{ValType}
+use Rattle.syntax_trees.specs.declared.types.ValType.{ValType}
 use Rattle.wasm_store.specs.Stack.{Stack}
 use Rattle.handle_table.specs.Alike.{SlotAlike}
 use Rattle.handle_table.specs.History.{live}

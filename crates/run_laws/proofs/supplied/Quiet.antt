@@ -1,7 +1,7 @@
 -- No event is to come to the acting task behind a part: it goes on, rests, enters, returns, or elements go over.
 use Rattle.std.proofs.Common.{◌+◌, ◌*◌, ℕ, Bool, true, false, not, nat_lt, if◌then◌else◌, List, [], ◌∷◌, Option, Some, None}
 use Rattle.std.specs.List.{slice_get}
-use Rattle.ca_types.specs.declared.types.ValType.{ValType}
+use Rattle.syntax_trees.specs.declared.types.ValType.{ValType}
 use Rattle.builtin_kinds.specs.declared.EndKind.{EndKind}
 use Rattle.stream_ends.specs.declared.side.Side.{Side}
 use Rattle.stream_ends.specs.declared.side.Side.TheVariants.{Reader, Writer}

@@ -2,7 +2,7 @@
 use Rattle.std.proofs.Common.{◌<◌, ℕ, zero, suc, ◌^◌, Bool, is_some, if◌then◌else◌, List, [], ◌∷◌, ap, arith, Some, None}
 use Rattle.std.specs.Prelude.{IsSome, replicate}
 use Rattle.std.proofs.lemmas.Bool.{lt-ltb}
-use Rattle.wasm_module.specs.declared.types.ValType.TheVariants.{I32}
+use Rattle.syntax_trees.specs.declared.module_types.ValType.TheVariants.{I32}
 use Rattle.wasm_numbers.specs.Types.{AreWords}
 use Rattle.builtin_kinds.specs.declared.ContextOp.TheVariants as context_op
 use Rattle.builtin_kinds.specs.declared.EndKind.TheVariants as end_kind

@@ -1,7 +1,7 @@
 -- Values are passed, but for ends of core functions: what is kept well stays so.
 use Rattle.std.proofs.Common.{◌≡◌, ℕ, List, [], Option, Some, None}
 use Rattle.std.specs.List.{slice_get}
-use Rattle.ca_types.specs.declared.value.Value.{Value}
+use Rattle.syntax_trees.specs.declared.value.Value.{Value}
 use Rattle.laid_types.specs.Known.{Numbered, numbered_at}
 use Rattle.copy_replies.specs.declared.moving.Moving.{Moving}
 use Rattle.copy_replies.specs.Moves.{moving, completed}

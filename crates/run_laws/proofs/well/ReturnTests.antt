@@ -1,6 +1,6 @@
 -- What `task.return` tests: what is kept well stays so.
 use Rattle.std.specs.Prelude.{ℕ, Bool, not, if◌then◌else◌, Option}
-use Rattle.ca_types.specs.declared.types.ValType.{ValType}
+use Rattle.syntax_trees.specs.declared.types.ValType.{ValType}
 use Rattle.comp_graph.specs.declared.graph.Options.{Options}
 use Rattle.comp_graph.specs.Graph.{Graph}
 use Rattle.graph_views.specs.Callees.{lift_of}

@@ -2,7 +2,7 @@
 -- and ends leave a table, and handles are lent for the call of a task. Where a type holds a borrow, the caller of that task runs in the instance.
 use Rattle.std.specs.Prelude.{◌≡◌, ℕ, true, List, Option, Some}
 use Rattle.std.specs.List.{slice_get}
-use Rattle.ca_types.specs.declared.types.ValType.{ValType}
+use Rattle.syntax_trees.specs.declared.types.ValType.{ValType}
 use Rattle.laid_types.specs.Handles.{has_borrow}
 use Rattle.laid_types.specs.Known.{Numbered, numbered_at}
 use Rattle.comp_graph.specs.declared.graph.CanonFunc.{CanonFunc}

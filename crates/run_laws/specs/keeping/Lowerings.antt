@@ -2,7 +2,7 @@
 -- come to a table. A borrow handle counts for its task once all are entered. An end that comes is readable, and idle.
 use Rattle.std.specs.Prelude.{◌≡◌, ℕ, true, false, List, Option, Some}
 use Rattle.std.specs.List.{slice_get}
-use Rattle.ca_types.specs.declared.types.ValType.{ValType}
+use Rattle.syntax_trees.specs.declared.types.ValType.{ValType}
 use Rattle.laid_types.specs.Handles.{has_borrow}
 use Rattle.laid_types.specs.Known.{Numbered, numbered_at}
 use Rattle.stream_ends.specs.declared.side.Side.TheVariants.{Reader}

@@ -2,11 +2,11 @@
 -- 4.2.5): of each core instance its first memory is kept, and ends are marked, where each stands once and is of a type that tells whether it is of a stream or a future.
 use Rattle.std.specs.Prelude.{◌≡◌, ℕ, List, [], map, Option, Some, None}
 use Rattle.std.specs.List.{slice_get}
-use Rattle.ca_types.specs.declared.types.FuncType.{FuncType}
-use Rattle.ca_types.specs.declared.types.ValType.{ValType, out-ValType}
-use Rattle.ca_types.specs.declared.types.ValType.TheOpen.{ValType-F}
+use Rattle.syntax_trees.specs.declared.types.FuncType.{FuncType}
+use Rattle.syntax_trees.specs.declared.types.ValType.{ValType, out-ValType}
+use Rattle.syntax_trees.specs.declared.types.ValType.TheOpen.{ValType-F}
 use Rattle.wasm_store.specs.Store.{Instance}
-use Rattle.ca_types.specs.declared.value.Value.{Value}
+use Rattle.syntax_trees.specs.declared.value.Value.{Value}
 use Rattle.laid_types.specs.SameTypes.{AreDistinct}
 use Rattle.builtin_kinds.specs.declared.EndKind.{EndKind}
 use Rattle.builtin_kinds.specs.declared.EndKind.TheVariants.{Stream, Future}

@@ -1,8 +1,8 @@
 -- Reads and writes, up to where elements go over, leave the marks of gates and of sets as they are.
 use Rattle.std.proofs.Common.{◌≡◌}
 use Rattle.std.specs.Prelude.{ℕ, ◌+◌, ◌*◌, ◌%◌, nat_eq, nat_le, nat_lt, Bool, not, ◌&&◌, if◌then◌else◌, List, [], ◌∷◌, length, Option, Some, None}
-use Rattle.ca_types.specs.declared.types.ValType.{ValType}
-use Rattle.ca_types.specs.Layout.{laid}
+use Rattle.syntax_trees.specs.declared.types.ValType.{ValType}
+use Rattle.laid_types.specs.Layout.{laid}
 use Rattle.builtin_kinds.specs.declared.EndKind.{EndKind}
 use Rattle.stream_ends.specs.declared.side.Side.{Side}
 use Rattle.stream_ends.specs.declared.open_copy.By.TheVariants as by

@@ -1,10 +1,10 @@
 -- Values that are lifted: the store stays, and a handle is lent at most as often as may be counted.
 use Rattle.std.proofs.Common.{◌≡◌, ◌+◌, ◌≤◌, nat_lt, ℕ, if◌then◌else◌, List, [], length, take, Option, Some, None, Result, Ok, Err, refl, ap, sym, subst, arith}
 use Rattle.std.specs.List.{slice_get}
-use Rattle.ca_types.specs.declared.types.ValType.{ValType, out-ValType}
-use Rattle.ca_types.specs.declared.value.Value.{Value}
-use Rattle.ca_types.specs.declared.value.Value.TheViews as value
-use Rattle.ca_types.specs.Flat.{flat}
+use Rattle.syntax_trees.specs.declared.types.ValType.{ValType, out-ValType}
+use Rattle.syntax_trees.specs.declared.value.Value.{Value}
+use Rattle.syntax_trees.specs.declared.value.Value.TheViews as value
+use Rattle.syntax_trees.specs.Flat.{flat}
 use Rattle.laid_types.specs.Known.{Numbered, numbered_at}
 use Rattle.res_handles.specs.declared.handle.Handle.{Handle}
 use Rattle.res_handles.specs.declared.entry.EntryView.TheVariants as seen

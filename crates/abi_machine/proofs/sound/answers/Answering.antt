@@ -3,8 +3,8 @@ use Rattle.std.proofs.Common.{◌≡◌, ◌<◌, ◌≤◌, ◌^◌, option_map
 use Rattle.std.specs.Prelude.{slice_index}
 use Rattle.std.specs.List.{slice_get}
 use Rattle.wasm_store.specs.Store.{found_at}
-use Rattle.ca_types.specs.declared.types.ValType.{ValType}
-use Rattle.ca_types.specs.Layout.{laid}
+use Rattle.syntax_trees.specs.declared.types.ValType.{ValType}
+use Rattle.laid_types.specs.Layout.{laid}
 use Rattle.builtin_kinds.specs.declared.EndKind.{EndKind}
 use Rattle.builtin_kinds.specs.declared.ResourceOp.{ResourceOp}
 use Rattle.builtin_kinds.specs.declared.ResourceOp.TheVariants as resource_op
@@ -52,8 +52,8 @@ use Rattle.abi_machine.specs.replies.Subtasks.{cancel_asked, subtask_cancel_turn
 use Rattle.abi_machine.specs.replies.Tasks.{same_address, return_checked, return_turn, task_cancel_turn, yield_turn}
 use Rattle.abi_machine.specs.replies.Waiting.{event_size, event_align, is_cancelled, view_of_set, set_new_turn, none_ready, by_ready, event_turn, wait_turn, set_drop_turn, joins, join_turn}
 use Rattle.abi_machine.specs.replies.Streams.{both_indices, end_ref, max_length, is_async_copy, is_unwritten, ends_added, channel_new_turn, placed_well, copy_cancel_turn, end_drop_turn}
-use Rattle.wasm_module.specs.declared.types.ValType as core_types
-use Rattle.wasm_module.specs.declared.types.ValType.TheVariants.{I64}
+use Rattle.syntax_trees.specs.declared.module_types.ValType as core_types
+use Rattle.syntax_trees.specs.declared.module_types.ValType.TheVariants.{I64}
 use Rattle.wasm_numbers.specs.Types.{AreWords}
 use Rattle.builtin_kinds.specs.declared.EndKind.TheVariants.{Stream, Future}
 use Rattle.builtin_kinds.specs.declared.ContextOp.TheVariants as context_op

@@ -1,6 +1,6 @@
 -- Ends that were not dropped: what is done to streams and futures but drops leaves them so.
 use Rattle.std.proofs.Common.{◌≡◌, inl, inr, ℕ, zero, suc, ◌+◌, Bool, false, nat_lt, List, [], ◌∷◌, ◌++◌, length, refl, sym, ap, ◌∙◌, subst, arith, Option, Some, None}
-use Rattle.ca_types.specs.declared.types.ValType.{ValType}
+use Rattle.syntax_trees.specs.declared.types.ValType.{ValType}
 use Rattle.builtin_kinds.specs.declared.EndKind.{EndKind}
 use Rattle.builtin_kinds.specs.declared.EndKind.TheVariants.{Stream, Future}
 use Rattle.stream_ends.specs.declared.side.Side.{Side}

@@ -6,8 +6,8 @@ use Rattle.std.proofs.lemmas.Bool.Decides.{nat_tests}
 use Rattle.std.specs.Option.{IfSome}
 use Rattle.wasm_store.specs.Store.{found_at}
 use Rattle.wasm_store.specs.Step.{start}
-use Rattle.ca_types.specs.Layout.{laid}
-use Rattle.ca_types.specs.declared.types.ValType.{ValType}
+use Rattle.laid_types.specs.Layout.{laid}
+use Rattle.syntax_trees.specs.declared.types.ValType.{ValType}
 use Rattle.builtin_kinds.specs.declared.EndKind.{EndKind}
 use Rattle.builtin_kinds.specs.declared.PlainBuiltin.{PlainBuiltin}
 use Rattle.builtin_kinds.specs.declared.PlainBuiltin.TheVariants as plain

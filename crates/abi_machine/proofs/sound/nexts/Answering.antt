@@ -4,8 +4,8 @@ use Rattle.std.proofs.lemmas.Bool.Decides.{nat_tests}
 use Rattle.std.specs.Prelude.{IsSome, IfSome, slice_index}
 use Rattle.std.specs.List.{slice_get, AllByRecursion}
 use Rattle.wasm_store.specs.Store.{found_at}
-use Rattle.ca_types.specs.Layout.{laid}
-use Rattle.ca_types.specs.declared.types.ValType.{ValType}
+use Rattle.laid_types.specs.Layout.{laid}
+use Rattle.syntax_trees.specs.declared.types.ValType.{ValType}
 use Rattle.builtin_kinds.specs.declared.EndKind.{EndKind}
 use Rattle.builtin_kinds.specs.declared.EndKind.TheVariants.{Stream, Future}
 use Rattle.builtin_kinds.specs.declared.PlainBuiltin.{PlainBuiltin}

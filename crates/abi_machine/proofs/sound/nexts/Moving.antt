@@ -10,7 +10,7 @@ use Rattle.wasm_store.specs.Instantiation.{External, Instantiation, Makes, Segme
 use Rattle.wasm_store.specs.Step.{Move, Goes, Traps}
 use Rattle.wasm_store.specs.Step as core
 use Rattle.wasm_memory.specs.Memories.{MemoryState}
-use Rattle.ca_types.specs.declared.types.ValType.{ValType}
+use Rattle.syntax_trees.specs.declared.types.ValType.{ValType}
 use Rattle.entry_gate.specs.Callbacks.{callback_of}
 use Rattle.entry_gate.specs.declared.callback.BadCode.{BadCode}
 use Rattle.entry_gate.specs.declared.callback.Next.{Next}

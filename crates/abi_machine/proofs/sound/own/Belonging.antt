@@ -2,8 +2,8 @@
 use Rattle.std.proofs.Common.{◌≡◌, ◌+◌, ℕ, zero, suc, Bool, true, false, List, [], ◌∷◌, ◌++◌, length, drop, map, refl, sym, ap, ◌∙◌, subst, arith, length-append, append_assoc, Option, Some, None, if◌then◌else◌}
 use Rattle.std.specs.List.{slice_get, AllByRecursion}
 use Rattle.std.specs.Option.{option_map, option_and_then, IfSome}
-use Rattle.wasm_module.specs.declared.module.ElementSegment.{ElementSegment}
-use Rattle.wasm_module.specs.declared.module.DataSegment.{DataSegment}
+use Rattle.syntax_trees.specs.declared.module.ElementSegment.{ElementSegment}
+use Rattle.syntax_trees.specs.declared.module.DataSegment.{DataSegment}
 use Rattle.wasm_memory.specs.Memories.{MemoryState, with_bytes}
 use Rattle.wasm_store.specs.Store.{Function, Own, Host as HostFunction, Table, Instance, Store, found_at, table_at, memory_at}
 use Rattle.wasm_store.specs.Stack.{Stack, Running, AtHost, Given}

@@ -1,8 +1,8 @@
 -- The functions that a script can call: each was lifted by the component instance that made what it lifts.
 use Rattle.std.proofs.Common.{◌≡◌, ℕ, List, refl, subst, Option, Some, None}
 use Rattle.std.specs.List.{slice_get}
-use Rattle.ca_base.specs.Names.{first_named}
-use Rattle.ca_types.specs.declared.exports.Export.{Export}
+use Rattle.syntax_trees.specs.Names.{first_named}
+use Rattle.syntax_trees.specs.declared.exports.Export.{Export}
 use Rattle.wasm_store.proofs.Lists.{all_at}
 use Rattle.comp_graph.specs.declared.graph.Lift.{Lift}
 use Rattle.comp_graph.specs.Graph.{Graph, Lifted, func_at, func_named, lifted_as, names}

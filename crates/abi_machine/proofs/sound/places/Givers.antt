@@ -6,14 +6,14 @@ use Rattle.std.specs.Option.{option_and_then}
 use Rattle.wasm_store.specs.Store.{Store, found_at}
 use Rattle.wasm_store.proofs.Lists.{all_at, all_append}
 use Rattle.wasm_store.proofs.Zips.{zip_at}
-use Rattle.ca_base.specs.Names.{first_named}
-use Rattle.ca_types.specs.declared.types.ValType.{ValType}
-use Rattle.ca_types.specs.declared.exports.Export.{Export}
-use Rattle.ca_types.specs.declared.types.ValType.TheOpen as F
-use Rattle.ca_types.specs.declared.types.ValType.TheVariants as leaves
-use Rattle.ca_types.specs.declared.types.ValType.TheFolds.{fold-roll-ValType}
-use Rattle.ca_types.specs.declared.core_type.CoreType.{CoreType}
-use Rattle.ca_types.specs.Ends.{end_case, end_field}
+use Rattle.syntax_trees.specs.Names.{first_named}
+use Rattle.syntax_trees.specs.declared.types.ValType.{ValType}
+use Rattle.syntax_trees.specs.declared.exports.Export.{Export}
+use Rattle.syntax_trees.specs.declared.types.ValType.TheOpen as F
+use Rattle.syntax_trees.specs.declared.types.ValType.TheVariants as leaves
+use Rattle.syntax_trees.specs.declared.types.ValType.TheFolds.{fold-roll-ValType}
+use Rattle.syntax_trees.specs.declared.core_type.CoreType.{CoreType}
+use Rattle.syntax_trees.specs.Ends.{end_case, end_field}
 use Rattle.laid_types.specs.Lists.{has_list, held_list, list_step}
 use Rattle.laid_types.proofs.SameTypes.{val_told}
 use Rattle.builtin_kinds.specs.declared.EndSide.{EndSide}

@@ -1,14 +1,14 @@
 -- Lowering asks for a place only where a value holds a string or a list, or is to stand at a new place.
 use Rattle.std.proofs.Common.{◌≡◌, ◌+◌, ◌*◌, ◌%◌, ◌^◌, ◌||◌, ◌&&◌, ◌==◌, ℕ, Bool, true, false, nat_lt, nat_le, if◌then◌else◌, List, [], ◌∷◌, ◌++◌, map, length, refl, sym, ◌∙◌, subst, Option, Some, None}
 use Rattle.std.specs.Int.{w32, to_le_bytes}
-use Rattle.ca_types.specs.declared.types.ValType.{ValType}
-use Rattle.ca_types.specs.declared.value.Value.{Value}
-use Rattle.ca_types.specs.declared.value.Value.TheOpen as V
-use Rattle.ca_types.specs.declared.value.Value.TheViews.{roll-Value}
-use Rattle.ca_types.specs.declared.value.Value.TheFolds.{map-Value, ind-Value, fold-roll-Value}
-use Rattle.ca_types.specs.Ends.{some_true}
-use Rattle.ca_types.specs.Layout.{laid, aligned}
-use Rattle.ca_types.specs.Flat.{flat}
+use Rattle.syntax_trees.specs.declared.types.ValType.{ValType}
+use Rattle.syntax_trees.specs.declared.value.Value.{Value}
+use Rattle.syntax_trees.specs.declared.value.Value.TheOpen as V
+use Rattle.syntax_trees.specs.declared.value.Value.TheViews.{roll-Value}
+use Rattle.syntax_trees.specs.declared.value.Value.TheFolds.{map-Value, ind-Value, fold-roll-Value}
+use Rattle.syntax_trees.specs.Ends.{some_true}
+use Rattle.laid_types.specs.Layout.{laid, aligned}
+use Rattle.syntax_trees.specs.Flat.{flat}
 use Rattle.laid_types.specs.Parts.{parts_of, part_at}
 use Rattle.builtin_kinds.specs.declared.EndKind.TheVariants as end_kind
 use Rattle.handle_table.specs.History.{Event}

@@ -1,7 +1,7 @@
 -- Values that fit types and are in their ranges are of these types, and so are arguments.
 use Rattle.std.proofs.Common.{List, [], ◌∷◌, Option}
-use Rattle.ca_types.specs.declared.types.ValType.{ValType}
-use Rattle.ca_types.specs.declared.value.Value.{Value}
+use Rattle.syntax_trees.specs.declared.types.ValType.{ValType}
+use Rattle.syntax_trees.specs.declared.value.Value.{Value}
 use Rattle.script_reader.specs.Script.{AreOfTypes}
 use Rattle.lowering_laws.specs.Values.{InRange, AllInRange, none_in, more_in}
 use Rattle.lowering_laws.specs.Values as canonical

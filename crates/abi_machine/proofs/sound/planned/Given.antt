@@ -1,7 +1,7 @@
 -- What is passed has its type.
 use Rattle.std.proofs.Common.{ℕ, true, false, List, [], map, sym, subst, Ok, Err}
-use Rattle.ca_types.specs.declared.core_type.CoreType.{CoreType}
-use Rattle.ca_types.specs.Flat.{flat, returned}
+use Rattle.syntax_trees.specs.declared.core_type.CoreType.{CoreType}
+use Rattle.syntax_trees.specs.Flat.{flat, returned}
 use Rattle.wasm_numbers.specs.Types.{AreWords}
 use Rattle.comp_graph.specs.Needs.{core_val}
 use Rattle.lowering_laws.proofs.Bytes.{each_byte}

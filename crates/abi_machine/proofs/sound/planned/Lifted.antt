@@ -4,8 +4,8 @@ use Rattle.std.specs.Prelude.{nat_eq}
 use Rattle.std.specs.List.{slice_get, AllByRecursion}
 use Rattle.std.specs.Option.{option_map}
 use Rattle.wasm_store.proofs.Lists.{all_at}
-use Rattle.ca_types.specs.declared.types.ValType.{ValType}
-use Rattle.ca_types.specs.declared.types.FuncType.{FuncType}
+use Rattle.syntax_trees.specs.declared.types.ValType.{ValType}
+use Rattle.syntax_trees.specs.declared.types.FuncType.{FuncType}
 use Rattle.handle_table.specs.History.{live}
 use Rattle.res_handles.specs.declared.handle.Handle.{Handle}
 use Rattle.res_handles.specs.declared.handle.Ownership.{Ownership}

@@ -5,8 +5,8 @@ use Rattle.std.proofs.Math.Facts.{sfits_to_z}
 use Rattle.std.specs.Prelude.{nat_le, FitsSigned, slice_index}
 use Rattle.std.specs.Int.{Width, w8, w16, w32, w64, cast_signed, from_bool}
 use mir.Val.{bits}
-use Rattle.ca_types.specs.declared.types.ValType.TheVariants as leaves
-use Rattle.ca_types.specs.declared.value.Value.TheVariants as plain
+use Rattle.syntax_trees.specs.declared.types.ValType.TheVariants as leaves
+use Rattle.syntax_trees.specs.declared.value.Value.TheVariants as plain
 use Rattle.value_lower.specs.Lowering.{bits_of}
 use Rattle.value_lift.specs.Bytes.{number, bytes_at, width_of, flags_from}
 use Rattle.value_lift.specs.Pieces.{flags_of}

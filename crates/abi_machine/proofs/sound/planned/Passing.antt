@@ -3,15 +3,15 @@ use Rattle.std.proofs.Common.{◌≡◌, ◌∙◌, ◌≤◌, ◌<◌, ◌+◌,
 use Rattle.std.proofs.lemmas.Bool.Decides.{nat_tests}
 use Rattle.std.specs.List.{flat_map, AllByRecursion}
 use Rattle.std.specs.Prelude.{is_some}
-use Rattle.ca_types.specs.declared.core_type.CoreType.{CoreType}
-use Rattle.ca_types.specs.declared.core_type.CoreType.TheVariants.{I32, I64}
-use Rattle.ca_types.specs.declared.core_type.FlatKind.TheVariants.{SyncLift, AsyncLift, CallbackLift}
-use Rattle.ca_types.specs.declared.types.ValType.{ValType}
-use Rattle.ca_types.specs.declared.types.Param.{Param}
-use Rattle.ca_types.specs.declared.types.FuncType.{FuncType}
-use Rattle.ca_types.specs.declared.value.Value.{Value}
-use Rattle.ca_types.specs.Flat.{flat, all_of, at_most, returned, flat_params, flat_func}
-use Rattle.ca_types.specs.Layout.{laid}
+use Rattle.syntax_trees.specs.declared.core_type.CoreType.{CoreType}
+use Rattle.syntax_trees.specs.declared.core_type.CoreType.TheVariants.{I32, I64}
+use Rattle.syntax_trees.specs.declared.core_type.FlatKind.TheVariants.{SyncLift, AsyncLift, CallbackLift}
+use Rattle.syntax_trees.specs.declared.types.ValType.{ValType}
+use Rattle.syntax_trees.specs.declared.types.Param.{Param}
+use Rattle.syntax_trees.specs.declared.types.FuncType.{FuncType}
+use Rattle.syntax_trees.specs.declared.value.Value.{Value}
+use Rattle.syntax_trees.specs.Flat.{flat, all_of, at_most, returned, flat_params, flat_func}
+use Rattle.laid_types.specs.Layout.{laid}
 use Rattle.wasm_numbers.specs.Types.{AreWords}
 use Rattle.value_lift.specs.WordStanding as lift
 use Rattle.value_lift.proofs.WordStood.{flat_of_tuple}

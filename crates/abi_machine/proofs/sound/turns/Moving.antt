@@ -9,7 +9,7 @@ use Rattle.wasm_store.specs.Step.{Move, Goes, Traps}
 use Rattle.wasm_store.specs.Step as core
 use Rattle.wasm_store.specs.Instantiation.{External, Instantiation, Makes, instance_of, instantiated, start_call}
 use Rattle.wasm_store.specs.Instantiation as core_instance
-use Rattle.ca_types.specs.declared.types.ValType.{ValType}
+use Rattle.syntax_trees.specs.declared.types.ValType.{ValType}
 use Rattle.entry_gate.specs.Callbacks.{callback_of}
 use Rattle.entry_gate.specs.declared.kind.Kind.{Kind}
 use Rattle.entry_gate.specs.declared.kind.Kind.TheVariants.{Sync, Callback, Stackful}

@@ -3,7 +3,7 @@ use Rattle.std.proofs.Common.{◌≡◌, inl, inr, ℕ, Bool, true, false, nat_e
 use Rattle.std.specs.Prelude.{slice_index}
 use Rattle.wasm_store.specs.Store.{found_at}
 use Rattle.wasm_store.specs.Stack.{Stack}
-use Rattle.ca_types.specs.declared.types.ValType.{ValType}
+use Rattle.syntax_trees.specs.declared.types.ValType.{ValType}
 use Rattle.builtin_kinds.specs.declared.ResourceOp.TheVariants as resource_op
 use Rattle.builtin_kinds.specs.declared.ContextOp.{ContextOp}
 use Rattle.builtin_kinds.specs.declared.ContextOp.TheVariants as context_op

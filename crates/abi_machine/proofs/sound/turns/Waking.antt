@@ -47,8 +47,8 @@ use Rattle.abi_machine.proofs.sound.Entered.{entered_still, waiting_unborrowed}
 use Rattle.abi_machine.proofs.sound.Entries.{left_true, asked_is, told_behind, enters_inside, resumes_inside, removed_waits, inside_alike}
 use Rattle.abi_machine.proofs.sound.Lifted.{arguments_keep}
 use Rattle.wasm_store.proofs.Lists.{all_at}
-use Rattle.ca_types.specs.declared.value.Value.{Value}
-use Rattle.ca_types.specs.declared.value.Value.TheViews as value
+use Rattle.syntax_trees.specs.declared.value.Value.{Value}
+use Rattle.syntax_trees.specs.declared.value.Value.TheViews as value
 use Rattle.abi_machine.specs.sound.EndsPassed.{ends_in, ends_of, AreApart, IsOnTheWay, PassesNoEnd, HostPassesNoEnd}
 use Rattle.abi_machine.proofs.sound.ends.Values.{record_ends}
 use Rattle.abi_machine.proofs.sound.ends.Lowered.{arguments_add}

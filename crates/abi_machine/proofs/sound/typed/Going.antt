@@ -1,10 +1,10 @@
 -- The next moves of typed stacks are typed, and the next core instance can be made.
 use Rattle.std.proofs.Common.{◌≡◌, ℕ, ◌+◌, Bool, true, false, is_some, List, [], ◌∷◌, ◌++◌, drop, length, refl, ap, ◌∙◌, subst, Some, if◌then◌else◌}
 use Rattle.std.specs.List.{slice_get}
-use Rattle.ca_types.specs.declared.types.FuncType.{FuncType}
-use Rattle.ca_types.specs.declared.core_type.FlatKind.TheVariants.{SyncLift, AsyncLift, CallbackLift}
-use Rattle.ca_types.specs.Flat.{flat_func}
-use Rattle.wasm_module.specs.declared.types.ValType.TheVariants.{I32}
+use Rattle.syntax_trees.specs.declared.types.FuncType.{FuncType}
+use Rattle.syntax_trees.specs.declared.core_type.FlatKind.TheVariants.{SyncLift, AsyncLift, CallbackLift}
+use Rattle.syntax_trees.specs.Flat.{flat_func}
+use Rattle.syntax_trees.specs.declared.module_types.ValType.TheVariants.{I32}
 use Rattle.wasm_store.specs.Store.{Store}
 use Rattle.wasm_store.specs.Typed.{StackTyped}
 use Rattle.wasm_store.specs.Instantiation.{External, ImportsMatch}

@@ -3,13 +3,13 @@ use Rattle.std.proofs.Common.{◌≡◌, ◌≤◌, ◌*◌, ◌/◌, ℕ, List,
 use Rattle.std.specs.List.{slice_get, flat_map, AllZip, range_with_len}
 use Rattle.std.specs.Option.{IfSome, IsSomeAnd}
 use Rattle.std.proofs.lemmas.List.{length-replicate}
-use Rattle.wasm_module.specs.declared.types.FuncType.{FuncType}
-use Rattle.wasm_module.specs.declared.types.Limits.{Limits}
-use Rattle.wasm_module.specs.declared.module.Import.{Import}
-use Rattle.wasm_module.specs.declared.module.ImportDesc.{ImportDesc}
-use Rattle.wasm_module.specs.declared.module.ImportDesc.TheVariants as import
-use Rattle.wasm_module.specs.declared.module.ModuleTree.{ModuleTree}
-use Rattle.wasm_module.specs.Spaces.{tables_of, memories_of, imported_tables, imported_memories}
+use Rattle.syntax_trees.specs.declared.module_types.FuncType.{FuncType}
+use Rattle.syntax_trees.specs.declared.module_types.Limits.{Limits}
+use Rattle.syntax_trees.specs.declared.module.Import.{Import}
+use Rattle.syntax_trees.specs.declared.module.ImportDesc.{ImportDesc}
+use Rattle.syntax_trees.specs.declared.module.ImportDesc.TheVariants as import
+use Rattle.syntax_trees.specs.declared.module.ModuleTree.{ModuleTree}
+use Rattle.wasm_typing.specs.Spaces.{tables_of, memories_of, imported_tables, imported_memories}
 use Rattle.wasm_typing.specs.Modules.{Typed}
 use Rattle.wasm_memory.specs.Memories.{MemoryState, page_count}
 use Rattle.wasm_store.specs.Store.{Table, Instance, Store}

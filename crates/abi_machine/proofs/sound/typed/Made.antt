@@ -1,11 +1,11 @@
 -- Core instances that were made stay so, and one more is made.
 use Rattle.std.proofs.Common.{◌≡◌, inl, inr, ◌+◌, ℕ, zero, suc, List, [], ◌∷◌, ◌++◌, drop, length, map, refl, sym, ap, ◌∙◌, subst, arith, append_assoc, length-append, Some}
 use Rattle.std.specs.List.{slice_get}
-use Rattle.wasm_module.specs.declared.module.DataSegment.{DataSegment}
-use Rattle.wasm_module.specs.declared.module.ElementSegment.{ElementSegment}
-use Rattle.wasm_module.specs.declared.module.Func.{Func}
-use Rattle.wasm_module.specs.declared.module.ModuleTree.{ModuleTree}
-use Rattle.wasm_module.specs.declared.types.FuncType.{FuncType}
+use Rattle.syntax_trees.specs.declared.module.DataSegment.{DataSegment}
+use Rattle.syntax_trees.specs.declared.module.ElementSegment.{ElementSegment}
+use Rattle.syntax_trees.specs.declared.module.Func.{Func}
+use Rattle.syntax_trees.specs.declared.module.ModuleTree.{ModuleTree}
+use Rattle.syntax_trees.specs.declared.module_types.FuncType.{FuncType}
 use Rattle.wasm_typing.specs.Modules.{Typed, ElementTyped}
 use Rattle.wasm_store.specs.Store.{Function, Host as HostFunction, Instance, Store, table_at, memory_at}
 use Rattle.wasm_store.specs.Instantiation.{External, new_func, allocated, element_written, data_written, init_value, Makes as IsMade, all_written, instance_of, instantiated, ImportsMatch, InRange}

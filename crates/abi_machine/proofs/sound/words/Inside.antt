@@ -3,14 +3,14 @@ use Rattle.std.proofs.Common.{◌≡◌, ◌∙◌, ◌<◌, ◌≤◌, ◌^◌,
 use Rattle.std.specs.Prelude.{slice_index}
 use Rattle.std.specs.Option.{option_map, option_and_then}
 use Rattle.std.specs.List.{slice_get}
-use Rattle.wasm_module.specs.declared.types.ValType as core_types
-use Rattle.wasm_module.specs.declared.types.ValType.TheVariants.{I32}
+use Rattle.syntax_trees.specs.declared.module_types.ValType as core_types
+use Rattle.syntax_trees.specs.declared.module_types.ValType.TheVariants.{I32}
 use Rattle.wasm_numbers.specs.Types.{AreWords}
 use Rattle.wasm_memory.specs.Memories.{MemoryState}
 use Rattle.wasm_store.specs.Store.{Instance, Store}
 use Rattle.wasm_store.specs.Typed.{Keeps as KeepsAll, IsLaterMemory, Extends}
-use Rattle.ca_types.specs.declared.types.ValType.{ValType}
-use Rattle.ca_types.specs.Layout.{laid}
+use Rattle.syntax_trees.specs.declared.types.ValType.{ValType}
+use Rattle.laid_types.specs.Layout.{laid}
 use Rattle.builtin_kinds.specs.declared.EndKind.{EndKind}
 use Rattle.builtin_kinds.specs.declared.EndKind.TheVariants.{Stream, Future}
 use Rattle.builtin_kinds.specs.declared.EndSide.{EndSide}

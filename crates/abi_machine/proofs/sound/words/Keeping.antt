@@ -5,11 +5,11 @@ use Rattle.std.specs.Prelude.{slice_index}
 use Rattle.std.specs.List.{slice_get}
 use Rattle.handle_table.specs.History.{live, next_index, live_count, most_live}
 use Rattle.wasm_store.proofs.Lists.{all_at}
-use Rattle.ca_types.specs.declared.types.ValType.{ValType}
+use Rattle.syntax_trees.specs.declared.types.ValType.{ValType}
 use Rattle.builtin_kinds.specs.declared.EndKind.{EndKind}
 use Rattle.builtin_kinds.specs.declared.EndKind.TheVariants.{Stream, Future}
 use Rattle.builtin_kinds.specs.declared.EndSide.{EndSide}
-use Rattle.ca_types.specs.declared.value.Value.{Value}
+use Rattle.syntax_trees.specs.declared.value.Value.{Value}
 use Rattle.stream_ends.specs.declared.open_copy.By.TheVariants as by
 use Rattle.stream_ends.specs.declared.open_copy.OpenCopy.{OpenCopy}
 use Rattle.stream_ends.specs.Ends.{new_copy, end_at}

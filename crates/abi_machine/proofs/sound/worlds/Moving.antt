@@ -2,7 +2,7 @@
 use Rattle.std.proofs.Common.{◌≡◌, ◌∙◌, inl, inr, ℕ, Bool, true, false, if◌then◌else◌, List, [], ◌∷◌, refl, sym, ap, subst, Some, None, Result, Ok, Err}
 use Rattle.std.specs.Prelude.{is_none, is_some, drop}
 use Rattle.std.specs.List.{slice_get}
-use Rattle.wasm_module.specs.declared.types.ValType as core_val
+use Rattle.syntax_trees.specs.declared.module_types.ValType as core_val
 use Rattle.wasm_numbers.specs.Types.{AreWords}
 use Rattle.wasm_store.specs.Store.{Host as HostFunction, Store}
 use Rattle.wasm_store.specs.Stack.{Stack}
@@ -20,9 +20,9 @@ use Rattle.entry_gate.specs.declared.callback.Next.TheVariants as next_word
 use Rattle.comp_graph.specs.Graph.{Graph, Lifted}
 use Rattle.comp_graph.specs.Needs.{core_func, flat_result_limit, lift_type, post_return_type}
 use Rattle.comp_graph.specs.declared.graph.Options.{Options}
-use Rattle.ca_types.specs.declared.types.FuncType.{FuncType}
-use Rattle.ca_types.specs.declared.core_type.FlatKind.TheVariants.{SyncLift, AsyncLift, CallbackLift}
-use Rattle.ca_types.specs.Flat.{flat_func}
+use Rattle.syntax_trees.specs.declared.types.FuncType.{FuncType}
+use Rattle.syntax_trees.specs.declared.core_type.FlatKind.TheVariants.{SyncLift, AsyncLift, CallbackLift}
+use Rattle.syntax_trees.specs.Flat.{flat_func}
 use Rattle.script_reader.specs.Script.{Script}
 use Rattle.trace_labels.specs.declared.label.BlockReason.TheVariants as reason
 use Rattle.trace_labels.specs.declared.trap.TrapName.TheVariants as trap

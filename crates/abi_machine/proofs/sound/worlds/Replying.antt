@@ -2,11 +2,11 @@
 use Rattle.std.proofs.Common.{◌≡◌, ◌∙◌, ◌<◌, inl, ◌^◌, ℕ, true, List, [], ◌∷◌, refl, sym, ap, subst, Option, Some, None, Result, Ok, Err}
 use Rattle.std.specs.Prelude.{slice_index}
 use Rattle.std.specs.List.{slice_get}
-use Rattle.wasm_module.specs.declared.types.FuncType.{FuncType}
-use Rattle.wasm_module.specs.declared.types.ValType.TheVariants.{I32}
-use Rattle.wasm_module.specs.declared.types.ValType as core_val
+use Rattle.syntax_trees.specs.declared.module_types.FuncType.{FuncType}
+use Rattle.syntax_trees.specs.declared.module_types.ValType.TheVariants.{I32}
+use Rattle.syntax_trees.specs.declared.module_types.ValType as core_val
 use Rattle.wasm_numbers.specs.Types.{AreWords}
-use Rattle.ca_types.specs.declared.types.ValType.{ValType}
+use Rattle.syntax_trees.specs.declared.types.ValType.{ValType}
 use Rattle.builtin_kinds.specs.declared.EndKind.{EndKind}
 use Rattle.builtin_kinds.specs.declared.EndKind.TheVariants.{Stream, Future}
 use Rattle.builtin_kinds.specs.declared.ContextOp.TheVariants as context_op

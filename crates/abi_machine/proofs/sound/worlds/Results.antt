@@ -1,13 +1,13 @@
 -- Tasks that resolve leave typed worlds: their results go into what called them.
 use Rattle.std.proofs.Common.{◌≡◌, ◌∙◌, inl, inr, ◌||◌, ℕ, Bool, true, false, nat_lt, List, [], ◌∷◌, map, length, refl, sym, ap, subst, Option, Some, None}
-use Rattle.wasm_module.specs.declared.types.ValType as core_type
+use Rattle.syntax_trees.specs.declared.module_types.ValType as core_type
 use Rattle.wasm_numbers.specs.Types.{AreWords}
 use Rattle.wasm_store.specs.Store.{Store}
 use Rattle.wasm_store.proofs.Lists.{all_at}
-use Rattle.ca_types.specs.declared.core_type.CoreType.{CoreType}
-use Rattle.ca_types.specs.declared.types.ValType.{ValType}
-use Rattle.ca_types.specs.declared.value.Value.{Value}
-use Rattle.ca_types.specs.Flat.{flat, flat_payload, returned}
+use Rattle.syntax_trees.specs.declared.core_type.CoreType.{CoreType}
+use Rattle.syntax_trees.specs.declared.types.ValType.{ValType}
+use Rattle.syntax_trees.specs.declared.value.Value.{Value}
+use Rattle.syntax_trees.specs.Flat.{flat, flat_payload, returned}
 use Rattle.tasks.specs.declared.phase.Resolution.{Resolution}
 use Rattle.tasks.specs.declared.phase.Resolution.TheVariants.{Returned}
 use Rattle.tasks.specs.declared.phase.Cancellation.TheVariants.{NotAsked}

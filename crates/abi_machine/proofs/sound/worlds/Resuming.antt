@@ -2,8 +2,8 @@
 use Rattle.std.proofs.Common.{◌≡◌, ◌∙◌, inr, ◌&&◌, ℕ, Bool, true, false, List, [], ◌∷◌, refl, sym, subst, Option, Some, None, Result, Ok, Err}
 use Rattle.std.specs.List.{slice_get}
 use Rattle.std.specs.Option.{unwrap_or}
-use Rattle.wasm_module.specs.declared.types.ValType.TheVariants.{I32}
-use Rattle.wasm_module.specs.declared.types.ValType as core_val
+use Rattle.syntax_trees.specs.declared.module_types.ValType.TheVariants.{I32}
+use Rattle.syntax_trees.specs.declared.module_types.ValType as core_val
 use Rattle.wasm_numbers.specs.Types.{AreWords}
 use Rattle.wasm_store.specs.Store.{Store}
 use Rattle.entry_gate.specs.Callbacks.{callback_of}

@@ -1,7 +1,7 @@
 -- Turns whose steps leave typed worlds, where what they answer is words of what is waited at.
 use Rattle.std.proofs.Common.{◌≡◌, ◌∙◌, ◌⊎◌, inl, inr, ◌+◌, ℕ, Bool, true, false, if◌then◌else◌, nat_lt, List, [], ◌∷◌, ◌++◌, drop, refl, sym, subst, Option, Some, None, Result, Ok, Err}
 use Rattle.std.specs.List.{slice_get, AllByRecursion}
-use Rattle.wasm_module.specs.declared.types.ValType.{ValType}
+use Rattle.syntax_trees.specs.declared.module_types.ValType.{ValType}
 use Rattle.wasm_numbers.specs.Types.{AreWords}
 use Rattle.wasm_store.specs.Store.{Store}
 use Rattle.handle_table.specs.History.{Event, live_count, most_live, next_index}

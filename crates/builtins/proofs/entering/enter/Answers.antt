@@ -1,5 +1,5 @@
 use Rattle.std.proofs.Common.{◌∙◌, ap, refl, subst, Err}
-use Rattle.ca_base.specs.declared.memory.MemoryOr.{MemoryOr}
+use Rattle.faults.specs.declared.memory.MemoryOr.{MemoryOr}
 use Rattle.value_lift.specs.declared.trap.LiftTrap.{LiftTrap}
 use Rattle.world.specs.Traps.{lift_name}
 use Rattle.world.specs.World.{Task}

@@ -1,5 +1,5 @@
 use Rattle.std.proofs.Common.{◌<◌, ◌≤◌, List, length, subst}
-use Rattle.ca_types.specs.declared.core_type.CoreType.{CoreType}
+use Rattle.syntax_trees.specs.declared.core_type.CoreType.{CoreType}
 use Rattle.builtins.proofs.Places.{plan_placed, plan_flat}
 use Rattle.builtins.proofs.entering.target_of.Goals as goal
 

@@ -1,5 +1,5 @@
 use Rattle.std.proofs.Common.{◌<◌, ◌≤◌, List, length, subst, arith}
-use Rattle.ca_types.specs.declared.core_type.CoreType.{CoreType}
+use Rattle.syntax_trees.specs.declared.core_type.CoreType.{CoreType}
 use Rattle.builtins.proofs.Places.{place_passed, plan_in_memory, plan_in_words}
 use Rattle.builtins.proofs.passing.target_of.Goals as goal
 

@@ -1,6 +1,6 @@
 use Rattle.std.proofs.Common.{inl, [], sym, ap, ◌∙◌, subst, Option, Err}
-use Rattle.ca_base.specs.declared.memory.MemoryOr.{MemoryOr}
-use Rattle.ca_base.specs.Faults.{MayMake}
+use Rattle.faults.specs.declared.memory.MemoryOr.{MemoryOr}
+use Rattle.faults.specs.Faults.{MayMake}
 use Rattle.value_lift.specs.declared.trap.LiftTrap.{LiftTrap}
 use Rattle.trace_labels.specs.declared.typed.TypedValue.{TypedValue}
 use Rattle.world.specs.Traps.{lift_name}

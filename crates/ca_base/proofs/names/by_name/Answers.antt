@@ -1,5 +1,5 @@
 use Rattle.std.proofs.Common.{arith}
-use Rattle.ca_base.proofs.FirstNamed.{old_named, new_named}
+use Rattle.syntax_trees.proofs.FirstNamed.{old_named, new_named}
 use Rattle.ca_base.proofs.names.by_name.Goals as goal
 
 pub loop-at-preserved-then-contains_key : goal.loop-at-preserved-then-contains_key

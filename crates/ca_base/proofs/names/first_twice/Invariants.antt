@@ -1,5 +1,5 @@
 -- The names so far were seen, and none of them twice.
-use Rattle.ca_base.proofs.Seen.{IsSeen}
+use Rattle.syntax_trees.proofs.Seen.{IsSeen}
 use Rattle.ca_base.proofs.names.first_twice.Given as goal
 
 abbrev pub invariant-loop-at : goal.invariant-loop-at

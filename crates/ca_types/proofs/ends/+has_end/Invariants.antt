@@ -1,6 +1,6 @@
 -- What is left of the parts decides what the type answers.
 use Rattle.std.proofs.Common.{◌≡◌, map, drop}
-use Rattle.ca_types.specs.Ends.{has_end, held_end, some_true}
+use Rattle.syntax_trees.specs.Ends.{has_end, held_end, some_true}
 use Rattle.ca_types.proofs.ends.+has_end.Given as goal
 
 abbrev pub decreases-has_end : goal.decreases-has_end

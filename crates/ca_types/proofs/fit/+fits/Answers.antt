@@ -1,9 +1,9 @@
 -- Lists of other lengths, and the case that a variant tells.
 use Rattle.std.proofs.Common.{◌≡◌, ◌∙◌, ap, sym, Some, None}
 use Rattle.std.specs.List.{slice_get}
-use Rattle.ca_types.specs.declared.types.Field.{Field}
-use Rattle.ca_types.specs.Fits.{test_of}
-use Rattle.ca_types.proofs.FitsEquations.{passes_no_other_count, fits_variant, passes_case, passes_no_case}
+use Rattle.syntax_trees.specs.declared.types.Field.{Field}
+use Rattle.syntax_trees.specs.Fits.{test_of}
+use Rattle.syntax_trees.proofs.FitsEquations.{passes_no_other_count, fits_variant, passes_case, passes_no_case}
 use Rattle.ca_types.proofs.fit.+fits.Goals as goal
 
 pub fields_fit-returns-then-values-fields : goal.fields_fit-returns-then-values-fields

@@ -1,6 +1,6 @@
 -- What is left of the values and of their types decides.
 use Rattle.std.proofs.Common.{◌≡◌, map, drop, length}
-use Rattle.ca_types.specs.Fits.{test_of, each_passes, all_pass}
+use Rattle.syntax_trees.specs.Fits.{test_of, each_passes, all_pass}
 use Rattle.ca_types.proofs.fit.+fits.Given as goal
 
 abbrev pub invariant-fields_fit-loop-i : goal.invariant-fields_fit-loop-i

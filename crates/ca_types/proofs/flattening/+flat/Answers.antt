@@ -1,11 +1,11 @@
 -- The two payloads of a result.
 use Rattle.std.proofs.Common.{◌≡◌, ◌∙◌, [], ◌∷◌, ap, sym, rules, List}
-use Rattle.ca_types.specs.declared.core_type.CoreType.{CoreType}
-use Rattle.ca_types.specs.declared.core_type.CoreType.TheVariants.{I32}
-use Rattle.ca_types.specs.Flat.{flat}
-use Rattle.ca_types.proofs.FlatEquations.{flat_of_result}
-use Rattle.ca_types.proofs.Joins.{joined_with, joined_two}
-use Rattle.ca_types.proofs.Parts.{if_ok_then}
+use Rattle.syntax_trees.specs.declared.core_type.CoreType.{CoreType}
+use Rattle.syntax_trees.specs.declared.core_type.CoreType.TheVariants.{I32}
+use Rattle.syntax_trees.specs.Flat.{flat}
+use Rattle.syntax_trees.proofs.FlatEquations.{flat_of_result}
+use Rattle.syntax_trees.proofs.Joins.{joined_with, joined_two}
+use Rattle.syntax_trees.proofs.Parts.{if_ok_then}
 use Rattle.ca_types.proofs.flattening.+flat.Goals as goal
 use Rattle.ca_types.proofs.flattening.+flat.Goals.{in-Some-ok+in_ok-payloads-in-Result, in_default-ok, in-Some-err+in_ok-flat-in-Result+in_ok-payloads-in-Result-2, in_default-err}
 

@@ -1,8 +1,8 @@
 -- What the parts so far and what is left of them give together.
 use Rattle.std.proofs.Common.{◌≡◌, ◌∷◌, ◌++◌, map, drop}
-use Rattle.ca_types.specs.declared.core_type.CoreType.TheVariants.{I32}
-use Rattle.ca_types.specs.Flat.{flat, all_of}
-use Rattle.ca_types.proofs.Joins.{joined_cases}
+use Rattle.syntax_trees.specs.declared.core_type.CoreType.TheVariants.{I32}
+use Rattle.syntax_trees.specs.Flat.{flat, all_of}
+use Rattle.syntax_trees.proofs.Joins.{joined_cases}
 use Rattle.ca_types.proofs.flattening.+flat.Given as goal
 
 abbrev pub decreases-flat : goal.decreases-flat

@@ -1,7 +1,7 @@
 -- The core types so far and those of the parameters that are left are those of all.
 use Rattle.std.proofs.Common.{◌≡◌, ◌++◌, drop}
 use Rattle.std.specs.List.{flat_map}
-use Rattle.ca_types.specs.Flat.{flat}
+use Rattle.syntax_trees.specs.Flat.{flat}
 use Rattle.ca_types.proofs.flattening.flat_params.Given as goal
 
 abbrev pub invariant-loop-param : goal.invariant-loop-param

@@ -1,7 +1,7 @@
 use Rattle.std.proofs.Common.{map, List, Option, ◌∙◌, ap, sym}
-use Rattle.ca_types.specs.declared.core_type.CoreType.{CoreType}
-use Rattle.ca_types.specs.declared.types.ValType.{ValType}
-use Rattle.ca_types.specs.Flat.{at_most, flat_payload}
+use Rattle.syntax_trees.specs.declared.core_type.CoreType.{CoreType}
+use Rattle.syntax_trees.specs.declared.types.ValType.{ValType}
+use Rattle.syntax_trees.specs.Flat.{at_most, flat_payload}
 use Rattle.comp_graph.specs.Needs.{core_val}
 use Rattle.canon_types.proofs.FirstTypes.{type_params_are}
 use Rattle.canon_types.proofs.builtin_types.return_params.Goals as goal

@@ -1,7 +1,7 @@
 -- The elements of ends are the one part of their type.
 use Rattle.std.proofs.Common.{◌∙◌, ap, sym}
 use Rattle.std.specs.Option.{option_and_then}
-use Rattle.ca_types.specs.declared.types.ValType.{ValType}
+use Rattle.syntax_trees.specs.declared.types.ValType.{ValType}
 use Rattle.laid_types.specs.Parts.{part_at}
 use Rattle.comp_graph.specs.Graph.{numbered_value, passed_value}
 use Rattle.comp_graph.proofs.FuncsPassed.{element_read}

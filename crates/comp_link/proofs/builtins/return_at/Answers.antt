@@ -1,6 +1,6 @@
 use Rattle.std.proofs.Common.{Bool, List, map, subst, Option, Some}
 use Rattle.std.proofs.lemmas.Result.{IfOk-weaker}
-use Rattle.ca_types.specs.declared.types.ValType.{ValType}
+use Rattle.syntax_trees.specs.declared.types.ValType.{ValType}
 use Rattle.comp_tree.specs.declared.builtins.CanonBuiltin.TheVariants as read_builtin
 use Rattle.comp_graph.specs.Passed.{MayBeAt}
 use Rattle.link_spec.specs.Canons.{Given, given_by}

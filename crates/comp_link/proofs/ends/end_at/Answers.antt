@@ -2,7 +2,7 @@ use Rattle.std.proofs.Common.{Bool, List, subst, Option}
 use Rattle.std.specs.List.{slice_get}
 use Rattle.std.specs.Option.{option_and_then}
 use Rattle.std.proofs.lemmas.Result.{IfOk-weaker}
-use Rattle.ca_types.specs.declared.types.ValType.{ValType}
+use Rattle.syntax_trees.specs.declared.types.ValType.{ValType}
 use Rattle.comp_tree.specs.declared.builtins.CanonBuiltin.TheVariants as read_builtin
 use Rattle.comp_graph.specs.Closed.{value_of}
 use Rattle.link_spec.specs.Canons.{given_by}

@@ -1,7 +1,7 @@
 use Rattle.std.proofs.Common.{◌≡◌, ◌∙◌, sym, ap, subst, Option, Some}
 use Rattle.std.specs.List.{slice_get}
 use Rattle.std.specs.Option.{option_and_then}
-use Rattle.ca_types.specs.declared.types.ValType.{ValType}
+use Rattle.syntax_trees.specs.declared.types.ValType.{ValType}
 use Rattle.link_spec.specs.Canons.{given_by}
 use Rattle.link_spec.specs.Builtins.{elements_of, end_meaning}
 use Rattle.canon_types.specs.Built.{IsBuiltinMeaning}

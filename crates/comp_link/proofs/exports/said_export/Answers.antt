@@ -2,7 +2,7 @@ use Rattle.std.proofs.Common.{ap, ◌<◌, ◌≤◌, ℕ, List, Option, refl, s
 use Rattle.std.specs.List.{AllZip}
 use Rattle.std.specs.Option.{option_map}
 use Rattle.std.proofs.lemmas.Result.{err_from_is_err_and}
-use Rattle.ca_base.specs.Names.{is_among}
+use Rattle.syntax_trees.specs.Names.{is_among}
 use Rattle.comp_tree.specs.declared.externs.ExternDesc.{ExternDesc}
 use Rattle.link_spec.specs.Definitions.{export_names}
 use Rattle.link_spec.specs.Spaces.{definition_at}

@@ -1,7 +1,7 @@
 use Rattle.std.proofs.Common.{ap, List, refl, sym, ◌∙◌, subst, Some, Err, true, false}
 use Rattle.std.specs.List.{AllZip}
 use Rattle.std.proofs.lemmas.Result.{err_from_is_err_and}
-use Rattle.ca_base.specs.Names.{is_among}
+use Rattle.syntax_trees.specs.Names.{is_among}
 use Rattle.link_spec.specs.declared.fault.LinkWhy.TheVariants as why
 use Rattle.link_spec.specs.Definitions.{export_named}
 use Rattle.link_spec.specs.Items.{meant_of, lacking}

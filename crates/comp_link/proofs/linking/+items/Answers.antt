@@ -3,7 +3,7 @@ use Rattle.std.specs.Prelude.{Result, Ok}
 use Rattle.std.proofs.lemmas.Result.{err_from_is_err_and}
 use Rattle.std.proofs.lemmas.List.{length-map}
 use Rattle.std.proofs.lemmas.Option.{slice_get_within}
-use Rattle.ca_base.specs.declared.memory.MemoryOr.{MemoryOr}
+use Rattle.faults.specs.declared.memory.MemoryOr.{MemoryOr}
 use Rattle.ca_base.specs.declared.placed.Placed.{Placed}
 use Rattle.comp_tree.specs.declared.items.Item.{Item}
 use Rattle.link_spec.specs.declared.fault.LinkWhy.{LinkWhy}

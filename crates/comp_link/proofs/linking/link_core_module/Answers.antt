@@ -1,5 +1,5 @@
 use Rattle.std.proofs.Common.{◌≡◌, subst, rules}
-use Rattle.wasm_module.specs.declared.module.ModuleTree.{ModuleTree}
+use Rattle.syntax_trees.specs.declared.module.ModuleTree.{ModuleTree}
 use Rattle.link_spec.specs.Definitions.{AModule}
 use Rattle.link_spec.specs.Spaces.{with_definition, with_spaces}
 use Rattle.comp_link.specs.State.{IsState}

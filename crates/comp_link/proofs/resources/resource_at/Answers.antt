@@ -2,7 +2,7 @@ use Rattle.std.proofs.Common.{Bool, ℕ, List, length, nat_lt, sym, subst, Optio
 use Rattle.std.specs.List.{slice_get}
 use Rattle.std.specs.Option.{option_and_then}
 use Rattle.std.proofs.lemmas.Result.{IfOk-weaker}
-use Rattle.ca_types.specs.declared.types.ValType.{ValType}
+use Rattle.syntax_trees.specs.declared.types.ValType.{ValType}
 use Rattle.comp_tree.specs.declared.builtins.CanonBuiltin.TheVariants as read_builtin
 use Rattle.comp_graph.specs.Closed.{resource_of}
 use Rattle.comp_graph.specs.declared.graph.Resource.{Resource}

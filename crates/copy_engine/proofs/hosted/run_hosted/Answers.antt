@@ -1,5 +1,5 @@
 use Rattle.std.proofs.Common.{[], ◌∷◌, refl}
-use Rattle.wasm_module.specs.declared.types.ValType.TheVariants.{I32}
+use Rattle.syntax_trees.specs.declared.module_types.ValType.TheVariants.{I32}
 use Rattle.wasm_execution.specs.declared.running.Outcome.TheVariants as outcome
 use Rattle.res_handles.specs.Calls.{view_at}
 use Rattle.copy_engine.specs.Answering.{setting_of}

@@ -1,6 +1,6 @@
 -- The code has come here by calls that were answered, its stack is typed, and its store extends the first one.
 use Rattle.std.proofs.Common.{[], ◌∷◌}
-use Rattle.wasm_module.specs.declared.types.ValType.TheVariants.{I32}
+use Rattle.syntax_trees.specs.declared.module_types.ValType.TheVariants.{I32}
 use Rattle.wasm_store.specs.Typed.{StackTyped, Extends}
 use Rattle.res_handles.specs.Calls.{view_at}
 use Rattle.copy_engine.specs.Answering.{setting_of}

@@ -1,6 +1,6 @@
 -- The stack is typed: so it ends with one i32, and the store that is left extends the one before.
 use Rattle.std.proofs.Common.{[], ◌∷◌, refl}
-use Rattle.wasm_module.specs.declared.types.ValType.TheVariants.{I32}
+use Rattle.syntax_trees.specs.declared.module_types.ValType.TheVariants.{I32}
 use Rattle.wasm_store.specs.Step.{start}
 use Rattle.wasm_store.specs.Typed.{StackTyped}
 use Rattle.wasm_execution.proofs.Alone.{gives_up_at_once}

@@ -1,6 +1,6 @@
 -- Room for payloads behind the number of the case is the layout of them all.
 use Rattle.std.proofs.Common.{◌∙◌, ap}
-use Rattle.ca_types.specs.Limited.{tagged}
+use Rattle.layouts.specs.Limited.{tagged}
 use Rattle.laid_types.specs.Parts.{layouts}
 use Rattle.laid_types.specs.Layers.{trees_of}
 use Rattle.laid_types.proofs.Rooms.{tagged_room}

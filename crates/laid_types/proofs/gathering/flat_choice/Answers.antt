@@ -1,8 +1,8 @@
 -- The first core types of all are told by the first of the payloads.
 use Rattle.std.proofs.Common.{◌∙◌, ◌∷◌, List, take, ap}
-use Rattle.ca_types.specs.declared.core_type.CoreType.{CoreType}
-use Rattle.ca_types.specs.declared.core_type.CoreType.TheVariants.{I32}
-use Rattle.ca_types.specs.Flat.{joined_all}
+use Rattle.syntax_trees.specs.declared.core_type.CoreType.{CoreType}
+use Rattle.syntax_trees.specs.declared.core_type.CoreType.TheVariants.{I32}
+use Rattle.syntax_trees.specs.Flat.{joined_all}
 use Rattle.laid_types.specs.Layers.{trees_of}
 use Rattle.laid_types.specs.Gathered.{flats}
 use Rattle.laid_types.proofs.Kept.{tagged_kept}

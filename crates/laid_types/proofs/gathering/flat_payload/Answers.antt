@@ -1,6 +1,6 @@
 -- One payload more, and none more.
 use Rattle.std.proofs.Common.{◌≡◌, None, get_or, rules}
-use Rattle.ca_types.specs.Flat.{joined_lists}
+use Rattle.syntax_trees.specs.Flat.{joined_lists}
 use Rattle.laid_types.proofs.Steps.{number_there, payload_some, payload_none, payload_all}
 use Rattle.laid_types.proofs.gathering.flat_payload.Goals as goal
 use Rattle.laid_types.proofs.gathering.flat_payload.Goals.{in-Some+in_ok-payload, in_default}

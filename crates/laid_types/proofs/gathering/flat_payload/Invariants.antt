@@ -1,6 +1,6 @@
 -- The core types so far and those of the payloads that are left give the first for all.
 use Rattle.std.proofs.Common.{◌≡◌, take, drop}
-use Rattle.ca_types.specs.Flat.{joined_all, joined_lists}
+use Rattle.syntax_trees.specs.Flat.{joined_all, joined_lists}
 use Rattle.laid_types.specs.Layers.{trees_of}
 use Rattle.laid_types.specs.Gathered.{flats}
 use Rattle.laid_types.proofs.gathering.flat_payload.Given as goal

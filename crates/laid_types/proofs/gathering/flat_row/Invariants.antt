@@ -1,6 +1,6 @@
 -- The core types so far and those of the parts that are left give the first of all.
 use Rattle.std.proofs.Common.{◌≡◌, ◌++◌, take, drop}
-use Rattle.ca_types.specs.Flat.{all_of}
+use Rattle.syntax_trees.specs.Flat.{all_of}
 use Rattle.laid_types.specs.Layers.{trees_of}
 use Rattle.laid_types.specs.Gathered.{flats}
 use Rattle.laid_types.proofs.gathering.flat_row.Given as goal

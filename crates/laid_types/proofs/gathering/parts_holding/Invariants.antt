@@ -1,6 +1,6 @@
 -- What the parts so far hold, and those that are left.
 use Rattle.std.proofs.Common.{◌≡◌, ◌||◌, drop}
-use Rattle.ca_types.specs.Ends.{some_true}
+use Rattle.syntax_trees.specs.Ends.{some_true}
 use Rattle.laid_types.specs.Layers.{trees_of}
 use Rattle.laid_types.specs.Gathered.{ends, handles, borrows, lists}
 use Rattle.laid_types.proofs.gathering.parts_holding.Given as goal

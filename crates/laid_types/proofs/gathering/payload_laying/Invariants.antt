@@ -1,6 +1,6 @@
 -- The room so far and the payloads that are left give the whole.
 use Rattle.std.proofs.Common.{◌≡◌, drop}
-use Rattle.ca_types.specs.Limited.{as_laid, InReach, nothing}
+use Rattle.layouts.specs.Limited.{as_laid, InReach, nothing}
 use Rattle.laid_types.specs.Parts.{layouts}
 use Rattle.laid_types.specs.Layers.{trees_of}
 use Rattle.laid_types.specs.Gathered.{room_for}

@@ -1,8 +1,8 @@
 -- The row so far and the parts that are left give the whole.
 use Rattle.std.proofs.Common.{◌≡◌, drop}
-use Rattle.ca_types.specs.Layout.{record_laid}
-use Rattle.ca_types.specs.Limited.{as_laid, InReach, limited}
-use Rattle.ca_types.proofs.Layouts.{closed_behind}
+use Rattle.laid_types.specs.Layout.{record_laid}
+use Rattle.layouts.specs.Limited.{as_laid, InReach, limited}
+use Rattle.layouts.proofs.Layouts.{closed_behind}
 use Rattle.laid_types.specs.Parts.{layouts}
 use Rattle.laid_types.specs.Layers.{trees_of}
 use Rattle.laid_types.proofs.gathering.row_laying.Given as goal

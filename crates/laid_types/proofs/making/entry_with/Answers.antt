@@ -1,7 +1,7 @@
 -- What was gathered is what is to be known of the type.
 use Rattle.std.proofs.Common.{◌∙◌, List, Option, take, min, ap, sym, refl}
-use Rattle.ca_types.specs.declared.types.ValType.{ValType, out-ValType}
-use Rattle.ca_types.specs.Limited.{as_laid, limited, nothing}
+use Rattle.syntax_trees.specs.declared.types.ValType.{ValType, out-ValType}
+use Rattle.layouts.specs.Limited.{as_laid, limited, nothing}
 use Rattle.laid_types.specs.Parts.{case_count, layouts, parts_of}
 use Rattle.laid_types.specs.Gathered.{room_for, laid_over, flats, flat_over, ends, handles, borrows, lists, end_over, handle_over, borrow_over, list_over, depths, depth_over, tops, top_over}
 use Rattle.laid_types.proofs.ByParts.{laid_by_parts, flat_by_parts}

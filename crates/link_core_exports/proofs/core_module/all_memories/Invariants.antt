@@ -1,6 +1,6 @@
 -- The imported memories, and those of the module so far.
 use Rattle.std.proofs.Common.{◌≡◌, ◌++◌, take}
-use Rattle.wasm_module.specs.Spaces.{imported_memories}
+use Rattle.wasm_typing.specs.Spaces.{imported_memories}
 use Rattle.link_core_exports.proofs.core_module.all_memories.Given as goal
 
 abbrev pub invariant-loop-memory : goal.invariant-loop-memory

@@ -1,6 +1,6 @@
 -- The memories of the imports so far.
 use Rattle.std.proofs.Common.{◌≡◌, take}
-use Rattle.wasm_module.specs.Spaces.{imported_memories}
+use Rattle.wasm_typing.specs.Spaces.{imported_memories}
 use Rattle.link_core_exports.proofs.core_module.memories_of.Given as goal
 
 abbrev pub invariant-loop-import : goal.invariant-loop-import

@@ -1,6 +1,6 @@
 use Rattle.std.proofs.Common.{◌≡◌, ◌∙◌, List, true, false, refl, subst}
 use Rattle.std.proofs.lemmas.Option.{slice_get_past, slice_get_read}
-use Rattle.wasm_module.specs.declared.module.Import.{Import}
+use Rattle.syntax_trees.specs.declared.module.Import.{Import}
 use Rattle.link_spec.specs.Tests.{all_fit}
 use Rattle.link_core_exports.proofs.Fit.{Known, all_past, item_less, one_past, not_one}
 use Rattle.link_core_exports.proofs.imports.all_fit.Goals as goal

@@ -1,5 +1,5 @@
 use Rattle.std.proofs.Common.{◌∙◌, List, ap, map, sym, subst}
-use Rattle.ca_types.specs.declared.exports.Export.{Export}
+use Rattle.syntax_trees.specs.declared.exports.Export.{Export}
 use Rattle.comp_graph.specs.Passed.{AreExportTypes}
 use Rattle.link_spec.specs.Linked.{export_of, lift_of}
 use Rattle.link_instances.proofs.Calling.{exports_typed}

@@ -1,6 +1,6 @@
 use Rattle.std.proofs.Common.{◌∙◌, ap, sym, map, List}
 use Rattle.std.specs.Prelude.{is_none}
-use Rattle.ca_base.specs.Names.{first_twice}
+use Rattle.syntax_trees.specs.Names.{first_twice}
 use Rattle.comp_tree.specs.declared.types.Param as read_param
 use Rattle.link_spec.specs.Types.{close_params}
 use Rattle.link_types.proofs.ValuesStay.{have_types_stay}

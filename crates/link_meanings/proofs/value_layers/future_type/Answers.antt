@@ -1,4 +1,4 @@
-use Rattle.ca_types.specs.declared.types.ValType.TheViews as val_type
+use Rattle.syntax_trees.specs.declared.types.ValType.TheViews as val_type
 use Rattle.link_spec.specs.ValueTypes.{close_passed}
 use Rattle.link_meanings.proofs.Made.{made_of_held}
 use Rattle.link_meanings.proofs.value_layers.future_type.Goals as goal

@@ -1,6 +1,6 @@
 use Rattle.std.proofs.Common.{List, subst}
 use Rattle.std.specs.Option.{option_map}
-use Rattle.ca_types.specs.declared.types.ValType.TheViews as val_type
+use Rattle.syntax_trees.specs.declared.types.ValType.TheViews as val_type
 use Rattle.comp_tree.specs.declared.types.ValTypeRef.{ValTypeRef}
 use Rattle.link_spec.specs.ValueTypes.{close_all, close_val}
 use Rattle.link_types.specs.Table.{IsValue}

@@ -1,5 +1,5 @@
 use Rattle.std.proofs.Common.{refl, sym}
-use Rattle.ca_types.specs.declared.types.ValType.TheVariants as leaves
+use Rattle.syntax_trees.specs.declared.types.ValType.TheVariants as leaves
 use Rattle.link_meanings.proofs.value_layers.own_type.Goals as goal
 
 pub returns-in_default-clause-ok : goal.returns-in_default-clause-ok

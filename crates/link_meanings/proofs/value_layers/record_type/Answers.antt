@@ -1,4 +1,4 @@
-use Rattle.ca_types.specs.declared.types.ValType.TheViews as val_type
+use Rattle.syntax_trees.specs.declared.types.ValType.TheViews as val_type
 use Rattle.link_spec.specs.ValueTypes.{close_all, close_field}
 use Rattle.laid_types.specs.Layers.{field_of}
 use Rattle.link_meanings.specs.Numbered.{IsField}

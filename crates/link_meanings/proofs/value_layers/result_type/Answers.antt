@@ -1,4 +1,4 @@
-use Rattle.ca_types.specs.declared.types.ValType.TheViews as val_type
+use Rattle.syntax_trees.specs.declared.types.ValType.TheViews as val_type
 use Rattle.link_spec.specs.ValueTypes.{close_held}
 use Rattle.link_types.proofs.ValuesStay.{is_there_stays}
 use Rattle.link_meanings.specs.Levels.{enclosed_types}

@@ -1,5 +1,5 @@
 use Rattle.std.proofs.Common.{refl}
-use Rattle.ca_types.specs.declared.types.ValType.TheViews as val_type
+use Rattle.syntax_trees.specs.declared.types.ValType.TheViews as val_type
 use Rattle.link_spec.specs.ValueTypes.{close_all, close_val}
 use Rattle.laid_types.specs.Layers.{tree_at}
 use Rattle.link_meanings.specs.Numbered.{IsPlace}

@@ -1,6 +1,6 @@
 use Rattle.std.proofs.Common.{◌≡◌, ◌∙◌, ◌++◌, List, take, ap}
-use Rattle.ca_types.specs.declared.core_type.CoreType.{CoreType}
-use Rattle.ca_types.specs.Flat.{flat}
+use Rattle.syntax_trees.specs.declared.core_type.CoreType.{CoreType}
+use Rattle.syntax_trees.specs.Flat.{flat}
 use Rattle.link_types.proofs.FuncsLaid.{flat_more, flat_all}
 use Rattle.link_types.proofs.laid_func.flat_params.Goals as goal
 

@@ -1,6 +1,6 @@
 use Rattle.std.proofs.Common.{rules, arith, ◌∙◌, ℕ, map, Some, ap}
 use Rattle.std.specs.Option.{option_map}
-use Rattle.ca_types.specs.declared.types.ValType.{ValType}
+use Rattle.syntax_trees.specs.declared.types.ValType.{ValType}
 use Rattle.link_values.specs.Resources.{renumbered}
 use Rattle.link_types.specs.Changes.{change_of}
 use Rattle.link_types.proofs.Renumbered.{IsNewField, IsNewCase, IsNewPlace, field_stays, case_stays, place_stays, fields_there, cases_there, places_there}

@@ -1,6 +1,6 @@
 -- As many words are given as are waited for.
 use Rattle.std.proofs.Common.{List, subst}
-use Rattle.wasm_module.specs.declared.types.ValType.{ValType}
+use Rattle.syntax_trees.specs.declared.module_types.ValType.{ValType}
 use Rattle.wasm_numbers.specs.Types.{AreWords}
 use Rattle.wasm_store.specs.Views.{function_of}
 use Rattle.machine_tests.proofs.Typing.{as_many}

@@ -1,7 +1,7 @@
 use Rattle.std.proofs.Common.{◌≡◌, ℕ, get_or, refl, Some}
 use Rattle.std.specs.List.{slice_get}
 use Rattle.std.proofs.lemmas.Option.{slice_get_within}
-use Rattle.ca_types.specs.declared.exports.Export.{Export}
+use Rattle.syntax_trees.specs.declared.exports.Export.{Export}
 use Rattle.comp_graph.proofs.FuncsPassed.{number_within}
 use Rattle.programs.specs.declared.program.FuncNumbers.{FuncNumbers}
 use Rattle.program_maker.specs.Programs.{PassesFunc}

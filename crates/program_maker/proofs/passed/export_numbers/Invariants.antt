@@ -1,6 +1,6 @@
 use Rattle.std.proofs.Common.{take}
 use Rattle.std.specs.List.{AllZip}
-use Rattle.ca_types.specs.declared.exports.Export.{Export}
+use Rattle.syntax_trees.specs.declared.exports.Export.{Export}
 use Rattle.programs.specs.declared.program.FuncNumbers.{FuncNumbers}
 use Rattle.program_maker.specs.Programs.{PassesFunc}
 use Rattle.program_maker.proofs.passed.export_numbers.Given as goal

@@ -1,6 +1,6 @@
 use Rattle.std.proofs.Common.{◌≡◌, ◌∙◌, ℕ, List, Option, refl, sym, ap, subst}
-use Rattle.ca_types.specs.declared.exports.Export.{Export}
-use Rattle.ca_types.specs.declared.types.ValType.{ValType}
+use Rattle.syntax_trees.specs.declared.exports.Export.{Export}
+use Rattle.syntax_trees.specs.declared.types.ValType.{ValType}
 use Rattle.laid_types.specs.SameTypes.{AreDistinct}
 use Rattle.comp_graph.specs.Passed.{TypeTable, HasCanonType, AreCanonTypes}
 use Rattle.comp_graph.specs.declared.graph.Resource.{Resource}

@@ -2,7 +2,7 @@
 use Rattle.std.proofs.Common.{◌≡◌, ◌∙◌, ℕ, Bool, true, false, ◌&&◌, nat_eq, List, refl, sym, ap, subst, Option, Some, None}
 use Rattle.std.specs.List.{slice_get, count_by}
 use Rattle.std.proofs.lemmas.Bool.{ne_eqb}
-use Rattle.ca_types.specs.declared.types.ValType.{ValType}
+use Rattle.syntax_trees.specs.declared.types.ValType.{ValType}
 use Rattle.res_handles.specs.declared.handle.Handle.{Handle}
 use Rattle.instances.specs.declared.entry.WorldEntry.{WorldEntry}
 use Rattle.instances.specs.declared.entry.WorldEntry.TheVariants as entry

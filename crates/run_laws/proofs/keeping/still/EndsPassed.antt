@@ -1,8 +1,8 @@
 -- Values that are passed keep ends: those that leave a table come to another one, readable and idle.
 use Rattle.std.proofs.Common.{◌≡◌, ◌∙◌, ℕ, Bool, true, false, not, if◌then◌else◌, List, [], ◌∷◌, Option, Some, None, refl, sym, ap, subst}
 use Rattle.std.specs.List.{slice_get}
-use Rattle.ca_types.specs.declared.types.ValType.{ValType, out-ValType}
-use Rattle.ca_types.specs.declared.value.Value.{Value}
+use Rattle.syntax_trees.specs.declared.types.ValType.{ValType, out-ValType}
+use Rattle.syntax_trees.specs.declared.value.Value.{Value}
 use Rattle.laid_types.specs.Known.{Numbered, numbered_at}
 use Rattle.entry_gate.specs.declared.kind.Kind.{Kind}
 use Rattle.entry_gate.specs.declared.kind.Kind.TheVariants.{Sync, Callback, Stackful}
@@ -52,7 +52,7 @@ use Rattle.run_laws.proofs.keeping.Prior.{Before, Prior, called_behind, QuietBy,
 use Rattle.run_laws.proofs.keeping.Quiet.{enters_quiet, returned_quiet}
 use Rattle.run_laws.proofs.keeping.Script.{returned_marks}
 use Rattle.std.specs.Option.{option_map}
-use Rattle.ca_types.specs.declared.value.Value.TheViews as value
+use Rattle.syntax_trees.specs.declared.value.Value.TheViews as value
 use Rattle.laid_types.specs.SameTypes.{AreDistinct}
 use Rattle.stream_ends.specs.declared.side.Side.TheVariants.{Reader}
 use Rattle.value_lift.specs.Lifting.{tuple_case}

@@ -2,7 +2,7 @@
 use Rattle.std.proofs.Common.{◌≡◌, ◌∙◌, ◌-◌, ◌+◌, inl, inr, ℕ, nat_le, Bool, true, false, if◌then◌else◌, List, refl, sym, ap, subst, Option, Some, None, Result, Ok, Err}
 use Rattle.std.specs.List.{slice_get}
 use Rattle.std.specs.Option.{option_map, option_and_then}
-use Rattle.ca_types.specs.declared.types.ValType.{ValType}
+use Rattle.syntax_trees.specs.declared.types.ValType.{ValType}
 use Rattle.laid_types.specs.SameTypes.{AreDistinct, same_val}
 use Rattle.laid_types.proofs.SameTypes.{val_told}
 use Rattle.handle_table.specs.Slots.{Slots, entry_at, with_entry}

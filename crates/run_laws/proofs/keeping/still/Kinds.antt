@@ -1,7 +1,7 @@
 -- What is kept of ends, of what stands for a world in which each stands once, with kinds by the types of values.
 use Rattle.std.proofs.Common.{◌≡◌, ◌∙◌, ℕ, List, is_some, refl, sym, ap, subst, Option, Some, None}
 use Rattle.std.specs.List.{slice_get, AllZip}
-use Rattle.ca_types.specs.declared.types.ValType.{ValType, out-ValType}
+use Rattle.syntax_trees.specs.declared.types.ValType.{ValType, out-ValType}
 use Rattle.wasm_store.specs.Stack.{Stack}
 use Rattle.builtin_kinds.specs.declared.EndKind.{EndKind}
 use Rattle.builtin_kinds.specs.declared.EndKind.TheVariants.{Stream, Future}

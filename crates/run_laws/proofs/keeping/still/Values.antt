@@ -1,9 +1,9 @@
 -- Where values are to be passed next, parts left tables, and what is lent for calls, as they were.
 use Rattle.std.proofs.Common.{◌+◌, ◌*◌, ℕ, Bool, true, false, not, nat_lt, if◌then◌else◌, List, [], ◌∷◌, Option, Some, None, ◌-◌, nat_eq, nat_le, ◌%◌, length, ◌++◌, refl, Result, Ok, Err}
 use Rattle.std.specs.List.{slice_get}
-use Rattle.ca_types.specs.Layout.{laid}
+use Rattle.laid_types.specs.Layout.{laid}
 use Rattle.graph_views.specs.Names.{builtin_of}
-use Rattle.ca_types.specs.declared.types.ValType.{ValType}
+use Rattle.syntax_trees.specs.declared.types.ValType.{ValType}
 use Rattle.builtin_kinds.specs.declared.EndKind.{EndKind}
 use Rattle.stream_ends.specs.declared.side.Side.{Side}
 use Rattle.stream_ends.specs.declared.open_copy.By.TheVariants as by

@@ -1,9 +1,9 @@
 -- Values that are lifted: lists of tasks stay as they follow from the tasks.
 use Rattle.std.proofs.Common.{nat_lt, ℕ, List, [], length, take, Option, Some, None, Result, Ok, Err}
 use Rattle.std.specs.List.{slice_get}
-use Rattle.ca_types.specs.declared.types.ValType.{out-ValType}
-use Rattle.ca_types.specs.declared.value.Value.TheViews as value
-use Rattle.ca_types.specs.Flat.{flat}
+use Rattle.syntax_trees.specs.declared.types.ValType.{out-ValType}
+use Rattle.syntax_trees.specs.declared.value.Value.TheViews as value
+use Rattle.syntax_trees.specs.Flat.{flat}
 use Rattle.laid_types.specs.Known.{Numbered, numbered_at}
 use Rattle.value_lift.specs.declared.counting.LiftOf.{LiftOf}
 use Rattle.value_lift.specs.declared.counting.LiftOf.TheVariants as whole

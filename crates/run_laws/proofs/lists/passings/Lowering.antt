@@ -1,8 +1,8 @@
 -- Values that are lowered: lists of tasks stay as they follow from the tasks.
 use Rattle.std.proofs.Common.{ℕ, List, sym, subst}
-use Rattle.ca_types.specs.declared.types.ValType.{ValType}
-use Rattle.ca_types.specs.declared.value.Value.{Value}
-use Rattle.ca_types.specs.Fits.{fits}
+use Rattle.syntax_trees.specs.declared.types.ValType.{ValType}
+use Rattle.syntax_trees.specs.declared.value.Value.{Value}
+use Rattle.syntax_trees.specs.Fits.{fits}
 use Rattle.laid_types.specs.Known.{Numbered}
 use Rattle.value_lower.specs.Plan.{Plan}
 use Rattle.copy_engine.specs.declared.lower_values.Target.{Target}

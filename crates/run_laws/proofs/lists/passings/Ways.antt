@@ -1,6 +1,6 @@
 -- Where values go is told, and borrow handles are counted: lists of tasks stay as they follow from the tasks.
 use Rattle.std.specs.Prelude.{ℕ, List}
-use Rattle.ca_types.specs.declared.value.Value.{Value}
+use Rattle.syntax_trees.specs.declared.value.Value.{Value}
 use Rattle.laid_types.specs.Known.{numbered_at}
 use Rattle.graph_views.specs.Canons.{canon_at, instance_of, options_of}
 use Rattle.graph_views.specs.Callees.{lift_of}

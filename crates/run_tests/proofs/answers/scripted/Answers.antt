@@ -1,6 +1,6 @@
 use Rattle.std.proofs.Common.{◌≡◌, List, Result, Ok, subst}
 use Rattle.std.specs.Prelude.{IfOk}
-use Rattle.ca_types.specs.declared.exports.Export.{Export}
+use Rattle.syntax_trees.specs.declared.exports.Export.{Export}
 use Rattle.script_reader.specs.Script.{Script, AreItems}
 use Rattle.run_tests.proofs.answers.scripted.Goals as goal
 

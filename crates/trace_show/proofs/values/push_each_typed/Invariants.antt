@@ -1,7 +1,7 @@
 -- The values so far are written.
 use Rattle.std.proofs.Common.{◌≡◌, ◌++◌, take, codes}
 use Rattle.std.specs.List.{flat_map}
-use Rattle.ca_types.specs.ValueText.{value_text}
+use Rattle.syntax_trees.specs.ValueText.{value_text}
 use Rattle.trace_show.proofs.values.push_each_typed.Given as goal
 
 abbrev pub invariant-loop-value : goal.invariant-loop-value

@@ -1,12 +1,12 @@
 -- One step of each loop, and values by the forms of their types.
 use Rattle.std.proofs.Common.{rules, min, ◌^◌, ◌-◌, ◌≡◌, ◌∙◌, [], length, ℕ, ◌<◌, List, ◌+◌, Some, ap, sym, subst, arith, Ok, Err}
 use Rattle.std.proofs.lemmas.Result.{err_from_is_err_and}
-use Rattle.ca_base.specs.declared.memory.MemoryOr.{MemoryOr}
-use Rattle.ca_types.specs.declared.types.ValType.{ValType, out-ValType}
-use Rattle.ca_types.specs.declared.types.ValType.TheOpen as F
-use Rattle.ca_types.specs.declared.value.Value.{Value}
-use Rattle.ca_types.specs.declared.value.Value.TheViews as values
-use Rattle.ca_types.specs.Layout.{laid, tag_size}
+use Rattle.faults.specs.declared.memory.MemoryOr.{MemoryOr}
+use Rattle.syntax_trees.specs.declared.types.ValType.{ValType, out-ValType}
+use Rattle.syntax_trees.specs.declared.types.ValType.TheOpen as F
+use Rattle.syntax_trees.specs.declared.value.Value.{Value}
+use Rattle.syntax_trees.specs.declared.value.Value.TheViews as values
+use Rattle.laid_types.specs.Layout.{laid, tag_size}
 use Rattle.laid_types.specs.Parts.{parts_of, part_at, case_count, payload_place}
 use Rattle.value_lift.specs.declared.trap.LiftTrap.{LiftTrap}
 use Rattle.value_lift.specs.Bytes.{number, width_of}

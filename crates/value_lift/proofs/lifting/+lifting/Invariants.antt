@@ -1,6 +1,6 @@
 -- Types get less deep from call to call; what was lifted and what is left to be lifted are the whole.
 use Rattle.std.proofs.Common.{◌≡◌, ◌≤◌, ◌+◌, ◌-◌, ◌*◌, [], drop, length}
-use Rattle.ca_types.specs.Layout.{laid}
+use Rattle.laid_types.specs.Layout.{laid}
 use Rattle.laid_types.specs.Parts.{parts_of}
 use Rattle.value_lift.specs.Over.{part, parts, elements_from, fields_from}
 use Rattle.value_lift.specs.Room.{end_behind}

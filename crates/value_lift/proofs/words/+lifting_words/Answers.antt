@@ -1,12 +1,12 @@
 -- A place where no part stands, and values by the forms of their types.
 use Rattle.std.proofs.Common.{◌≡◌, rules, ◌∙◌, [], length, take, ℕ, ◌<◌, List, Some, ap, sym, subst, arith, Ok, Err, ◌+◌}
 use Rattle.std.proofs.lemmas.Result.{err_from_is_err_and}
-use Rattle.ca_types.specs.declared.core_type.CoreType.{CoreType}
-use Rattle.ca_types.specs.declared.types.ValType.{ValType, out-ValType}
-use Rattle.ca_types.specs.declared.types.ValType.TheOpen as F
-use Rattle.ca_types.specs.declared.value.Value.{Value}
-use Rattle.ca_types.specs.declared.value.Value.TheViews as values
-use Rattle.ca_types.specs.Flat.{flat}
+use Rattle.syntax_trees.specs.declared.core_type.CoreType.{CoreType}
+use Rattle.syntax_trees.specs.declared.types.ValType.{ValType, out-ValType}
+use Rattle.syntax_trees.specs.declared.types.ValType.TheOpen as F
+use Rattle.syntax_trees.specs.declared.value.Value.{Value}
+use Rattle.syntax_trees.specs.declared.value.Value.TheViews as values
+use Rattle.syntax_trees.specs.Flat.{flat}
 use Rattle.laid_types.specs.Parts.{parts_of, part_at, case_count}
 use Rattle.value_lift.specs.Ledger.{Came, MayTake, made, reached}
 use Rattle.value_lift.specs.Named.{named_in, what_named, value_named}

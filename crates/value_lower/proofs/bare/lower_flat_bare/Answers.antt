@@ -1,7 +1,7 @@
 -- Over the type's tree. As many core values come as stand for the type.
 use Rattle.std.proofs.Common.{◌≡◌, [], List, ℕ, length, subst, arith}
-use Rattle.ca_types.specs.declared.types.ValType.{ValType}
-use Rattle.ca_types.specs.Flat.{flat}
+use Rattle.syntax_trees.specs.declared.types.ValType.{ValType}
+use Rattle.syntax_trees.specs.Flat.{flat}
 use Rattle.value_lower.specs.Plan.{Gives}
 use Rattle.value_lower.specs.Following.{untabled, Comes}
 use Rattle.value_lower.specs.Lowering.{flat_lowered}

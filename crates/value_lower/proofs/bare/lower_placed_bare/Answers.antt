@@ -1,6 +1,6 @@
 -- Over the type's tree.
 use Rattle.std.proofs.Common.{[], ◌∷◌, subst}
-use Rattle.ca_types.specs.declared.types.ValType.{ValType}
+use Rattle.syntax_trees.specs.declared.types.ValType.{ValType}
 use Rattle.value_lower.specs.Following.{untabled, Comes}
 use Rattle.value_lower.specs.Lowering.{placed}
 use Rattle.value_lower.proofs.bare.lower_placed_bare.Goals as goal

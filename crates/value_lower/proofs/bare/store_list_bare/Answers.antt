@@ -1,6 +1,6 @@
 -- Over the type's tree.
 use Rattle.std.proofs.Common.{[], sym, subst}
-use Rattle.ca_types.specs.declared.types.ValType.{ValType}
+use Rattle.syntax_trees.specs.declared.types.ValType.{ValType}
 use Rattle.value_lower.specs.Following.{untabled, Comes}
 use Rattle.value_lower.specs.Lowering.{all_stored}
 use Rattle.value_lower.specs.Fitting.{AllFit}

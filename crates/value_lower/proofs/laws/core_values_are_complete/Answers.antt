@@ -1,5 +1,5 @@
 use Rattle.std.proofs.Common.{◌≡◌, [], List, ℕ, length, arith}
-use Rattle.ca_types.specs.Flat.{flat}
+use Rattle.syntax_trees.specs.Flat.{flat}
 use Rattle.value_lower.specs.Plan.{Gives}
 use Rattle.value_lower.specs.Following.{untabled}
 use Rattle.value_lower.specs.Lowering.{flat_lowered}

@@ -1,6 +1,6 @@
 -- As many core values come as stand for the type.
 use Rattle.std.proofs.Common.{◌≡◌, [], List, ℕ, length, arith}
-use Rattle.ca_types.specs.Flat.{flat}
+use Rattle.syntax_trees.specs.Flat.{flat}
 use Rattle.value_lower.specs.Plan.{Gives}
 use Rattle.value_lower.specs.Entering.{flat_lowered}
 use Rattle.value_lower.specs.Tables.{tabled, entered, IsEntry}

@@ -1,8 +1,8 @@
 -- The value is stored at the new place.
 use Rattle.std.proofs.Common.{◌∙◌, ◌^◌, ℕ, [], ◌∷◌, min, Err, refl, ap, sym}
 use Rattle.std.proofs.lemmas.Result.{err_from_is_err_and}
-use Rattle.ca_types.specs.declared.types.ValType.{ValType}
-use Rattle.ca_types.specs.Layout.{laid}
+use Rattle.syntax_trees.specs.declared.types.ValType.{ValType}
+use Rattle.laid_types.specs.Layout.{laid}
 use Rattle.value_lower.specs.Plan.{New, Plan, Gives}
 use Rattle.value_lower.specs.Following.{rooms_of, Words}
 use Rattle.value_lower.specs.Storing.{asked}

@@ -1,7 +1,7 @@
 -- The place has passed its tests, and the value is stored there.
 use Rattle.std.proofs.Common.{◌≡◌, ◌∙◌, ◌%◌, ◌^◌, ℕ, [], min, refl, ap, sym, arith}
-use Rattle.ca_types.specs.declared.types.ValType.{ValType}
-use Rattle.ca_types.specs.Layout.{laid}
+use Rattle.syntax_trees.specs.declared.types.ValType.{ValType}
+use Rattle.laid_types.specs.Layout.{laid}
 use Rattle.value_lower.specs.Plan.{New, Plan, Gives}
 use Rattle.value_lower.specs.Following.{rooms_of}
 use Rattle.value_lower.specs.Entering.{stored, store}

@@ -1,8 +1,8 @@
 -- The place has passed its tests, and the values are stored there.
 use Rattle.std.proofs.Common.{◌≡◌, ◌∙◌, ◌%◌, ◌*◌, ◌^◌, ◌==◌, min, false, ℕ, List, [], ◌∷◌, length, map, refl, ap, sym, arith}
-use Rattle.ca_types.specs.declared.types.ValType.{ValType}
-use Rattle.ca_types.specs.declared.value.Value.{Value}
-use Rattle.ca_types.specs.Layout.{laid}
+use Rattle.syntax_trees.specs.declared.types.ValType.{ValType}
+use Rattle.syntax_trees.specs.declared.value.Value.{Value}
+use Rattle.laid_types.specs.Layout.{laid}
 use Rattle.value_lower.specs.Plan.{New, Plan, Gives}
 use Rattle.value_lower.specs.Following.{rooms_of}
 use Rattle.value_lower.specs.Storing.{tested, elements_from}

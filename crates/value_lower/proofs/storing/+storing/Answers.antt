@@ -3,15 +3,15 @@ use Rattle.std.proofs.Common.{rules, ◌≡◌, ◌∙◌, ◌+◌, ◌*◌, ◌
 use Rattle.std.proofs.lemmas.Result.{err_from_is_err_and}
 use Rattle.std.proofs.lemmas.List.{length-map}
 use denote.Param.Weighed.{most, at_most}
-use Rattle.ca_types.proofs.value.Value.TheLaws.{the_size}
+use Rattle.syntax_trees.proofs.value.Value.TheLaws.{the_size}
 use Rattle.std.specs.List.{slice_get}
 use Rattle.std.specs.Option.{option_map}
 use Rattle.std.specs.Int.{byte_len}
-use Rattle.ca_types.specs.declared.types.ValType.{ValType, out-ValType}
-use Rattle.ca_types.specs.declared.value.Value.{Value, out-Value}
-use Rattle.ca_types.specs.declared.value.Value.TheViews.{the_lemmas}
-use Rattle.ca_types.specs.declared.value.Value.TheOpen as V
-use Rattle.ca_types.specs.Layout.{laid, aligned, tag_size}
+use Rattle.syntax_trees.specs.declared.types.ValType.{ValType, out-ValType}
+use Rattle.syntax_trees.specs.declared.value.Value.{Value, out-Value}
+use Rattle.syntax_trees.specs.declared.value.Value.TheViews.{the_lemmas}
+use Rattle.syntax_trees.specs.declared.value.Value.TheOpen as V
+use Rattle.laid_types.specs.Layout.{laid, aligned, tag_size}
 use Rattle.laid_types.specs.Parts.{part_at, parts_of, case_count, payload_place}
 use Rattle.value_lower.specs.declared.ends.LowerWhy.TheVariants.{Bounds}
 use Rattle.value_lower.specs.Plan.{New, NewOwn, NewBorrow, NewEnd, Plan, Put}

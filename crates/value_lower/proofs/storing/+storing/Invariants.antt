@@ -1,6 +1,6 @@
 -- What is left of the plan leads from the state now to what the whole plan leads to.
 use Rattle.std.proofs.Common.{◌*◌, ◌≤◌, length, map, drop}
-use Rattle.ca_types.specs.Layout.{laid}
+use Rattle.laid_types.specs.Layout.{laid}
 use Rattle.laid_types.specs.Parts.{parts_of}
 use Rattle.value_lower.specs.Plan.{Plan}
 use Rattle.value_lower.specs.Following.{rooms_of, Leads}

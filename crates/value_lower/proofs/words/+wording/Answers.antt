@@ -5,11 +5,11 @@ use Rattle.std.proofs.lemmas.List.{length-map}
 use denote.Param.Weighed.{most, at_most}
 use Rattle.std.specs.List.{slice_get}
 use Rattle.std.specs.Option.{option_map}
-use Rattle.ca_types.proofs.value.Value.TheLaws.{the_size}
-use Rattle.ca_types.specs.declared.types.ValType.{ValType, out-ValType}
-use Rattle.ca_types.specs.declared.value.Value.{Value}
-use Rattle.ca_types.specs.declared.value.Value.TheOpen as V
-use Rattle.ca_types.specs.declared.value.Value.TheViews.{the_lemmas}
+use Rattle.syntax_trees.proofs.value.Value.TheLaws.{the_size}
+use Rattle.syntax_trees.specs.declared.types.ValType.{ValType, out-ValType}
+use Rattle.syntax_trees.specs.declared.value.Value.{Value}
+use Rattle.syntax_trees.specs.declared.value.Value.TheOpen as V
+use Rattle.syntax_trees.specs.declared.value.Value.TheViews.{the_lemmas}
 use Rattle.laid_types.specs.Parts.{part_at, parts_of}
 use Rattle.value_lower.specs.Plan.{New, NewOwn, NewBorrow, NewEnd, Plan}
 use Rattle.value_lower.specs.Following.{rooms_of}

@@ -3,7 +3,7 @@ use Rattle.std.proofs.Common.{rules, ◌≡◌, ◌<◌, ℕ, true, List, length
 use Rattle.std.proofs.lemmas.Option.{slice_get_read}
 use Rattle.std.specs.List.{slice_get}
 use Rattle.task_table.specs.declared.slot.TaskSlot.{TaskSlot}
-use Rattle.ca_types.specs.Fits.{fits}
+use Rattle.syntax_trees.specs.Fits.{fits}
 use Rattle.copy_engine.specs.Hosted.{plan_to}
 use Rattle.programs.specs.Program.{resources_of}
 use Rattle.world_parts.specs.Held.{held}

@@ -1,6 +1,6 @@
 -- What is left of the parameters decides, with the result.
 use Rattle.std.proofs.Common.{◌≡◌, map, drop, ◌||◌}
-use Rattle.ca_types.specs.Ends.{some_true}
+use Rattle.syntax_trees.specs.Ends.{some_true}
 use Rattle.value_reader.specs.Host.{has_host_type, held_host_type, func_has_host_type}
 use Rattle.value_reader.proofs.host.func_has_host_type.Given as goal
 

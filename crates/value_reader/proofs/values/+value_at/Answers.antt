@@ -1,8 +1,8 @@
 -- What stands behind the label of the case that it chooses.
 use Rattle.std.proofs.Common.{◌≡◌, ◌∙◌, sym, ap, subst, map, Option, Some, None, List, ℕ, MatchOption, Bor}
 use Rattle.std.specs.List.{slice_get}
-use Rattle.ca_types.specs.declared.types.Case.{Case}
-use Rattle.ca_types.specs.declared.value.Value.{Value}
+use Rattle.syntax_trees.specs.declared.types.Case.{Case}
+use Rattle.syntax_trees.specs.declared.value.Value.{Value}
 use Rattle.value_reader.specs.Tokens.{label_of}
 use Rattle.value_reader.specs.Reads.{MayRead}
 use Rattle.value_reader.specs.Values.{place_of, case_at, payload_reader}

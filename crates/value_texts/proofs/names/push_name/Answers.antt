@@ -1,7 +1,7 @@
 use Rattle.std.proofs.Common.{◌++◌, flat_map, chars, sym, ap, ◌∙◌, map-id}
 use Rattle.std.proofs.lemmas.Iterator.{YieldsList-from_chars}
 use Rattle.std.proofs.lemmas.Iterator.Consumers.{YieldsList-end}
-use Rattle.ca_types.specs.NameText.{char_text, name_text}
+use Rattle.syntax_trees.specs.NameText.{char_text, name_text}
 use Rattle.value_texts.proofs.names.push_name.Goals as goal
 
 pub returns : goal.returns

@@ -1,6 +1,6 @@
 -- The characters so far are written.
 use Rattle.std.proofs.Common.{◌≡◌, ◌++◌, flat_map}
-use Rattle.ca_types.specs.NameText.{char_text}
+use Rattle.syntax_trees.specs.NameText.{char_text}
 use Rattle.value_texts.proofs.names.push_name.Given as goal
 
 abbrev pub invariant-loop-c : goal.invariant-loop-c

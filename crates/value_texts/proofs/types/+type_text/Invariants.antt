@@ -1,6 +1,6 @@
 -- What is written so far, and what is left.
 use Rattle.std.proofs.Common.{◌≡◌, ◌++◌, drop, map}
-use Rattle.ca_types.specs.TypeText.{type_text, field_text, case_text}
+use Rattle.syntax_trees.specs.TypeText.{type_text, field_text, case_text}
 use Rattle.value_texts.proofs.Separated.{following}
 use Rattle.value_texts.proofs.types.+type_text.Given as goal
 

@@ -2,14 +2,14 @@
 use Rattle.std.proofs.Common.{◌≡◌, ◌∙◌, ◌++◌, ap, subst, sym, map, List, Some, None, append-nil}
 use Rattle.std.specs.Prelude.{codes, OnOk}
 use Rattle.std.specs.List.{slice_get}
-use Rattle.ca_types.specs.declared.types.ValType.{ValType}
-use Rattle.ca_types.specs.declared.types.Field.{Field}
-use Rattle.ca_types.specs.declared.value.Value.{Value}
-use Rattle.ca_types.specs.NameText.{name_text}
-use Rattle.ca_types.specs.TypeText.{Chars, listed}
-use Rattle.ca_types.specs.ValueText.{writer, field_writer, by_label, by_each, set_labels, payload_text}
+use Rattle.syntax_trees.specs.declared.types.ValType.{ValType}
+use Rattle.syntax_trees.specs.declared.types.Field.{Field}
+use Rattle.syntax_trees.specs.declared.value.Value.{Value}
+use Rattle.syntax_trees.specs.NameText.{name_text}
+use Rattle.syntax_trees.specs.TypeText.{Chars, listed}
+use Rattle.syntax_trees.specs.ValueText.{writer, field_writer, by_label, by_each, set_labels, payload_text}
 use Rattle.value_texts.proofs.Separated.{two_pieces, three_pieces}
-use Rattle.ca_types.proofs.WriterEquations.{write_record, write_tuple, write_list, write_flags, write_variant, write_option, write_enum, write_err, writes_case, writes_no_case, writes_label, writes_no_label}
+use Rattle.syntax_trees.proofs.WriterEquations.{write_record, write_tuple, write_list, write_flags, write_variant, write_option, write_enum, write_err, writes_case, writes_no_case, writes_label, writes_no_label}
 use Rattle.value_texts.proofs.values.+value_text.Goals as goal
 
 pub push_value-returns-in_ok-push_word-in-Record-value-2 : goal.push_value-returns-in_ok-push_word-in-Record-value-2

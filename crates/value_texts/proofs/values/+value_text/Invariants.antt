@@ -1,6 +1,6 @@
 -- What is written so far, and what is left.
 use Rattle.std.proofs.Common.{◌≡◌, ◌++◌, drop, map}
-use Rattle.ca_types.specs.ValueText.{writer, field_writer, by_label, by_each}
+use Rattle.syntax_trees.specs.ValueText.{writer, field_writer, by_label, by_each}
 use Rattle.value_texts.proofs.Separated.{following}
 use Rattle.value_texts.proofs.values.+value_text.Given as goal
 

@@ -1,8 +1,8 @@
 -- What is written so far, and the labels that are left.
 use Rattle.std.proofs.Common.{◌≡◌, ◌++◌, drop, map}
-use Rattle.ca_types.specs.NameText.{name_text}
-use Rattle.ca_types.specs.TypeText.{listed}
-use Rattle.ca_types.specs.ValueText.{set_labels}
+use Rattle.syntax_trees.specs.NameText.{name_text}
+use Rattle.syntax_trees.specs.TypeText.{listed}
+use Rattle.syntax_trees.specs.ValueText.{set_labels}
 use Rattle.value_texts.proofs.Separated.{continued}
 use Rattle.value_texts.proofs.values.push_flags.Given as goal
 

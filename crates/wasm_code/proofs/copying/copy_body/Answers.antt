@@ -1,6 +1,6 @@
 use Rattle.std.proofs.Common.{◌≡◌, List, ap, subst, sym, ◌∙◌}
-use Rattle.wasm_module.specs.declared.instr.Op.{Op}
-use Rattle.wasm_module.specs.Expr.{Expr, flat, unflat, unflat-flat}
+use Rattle.syntax_trees.specs.declared.instr.Op.{Op}
+use Rattle.syntax_trees.specs.Expr.{Expr, flat, unflat, unflat-flat}
 use Rattle.wasm_code.proofs.copying.copy_body.Goals as goal
 
 flat_again : (e : Expr) (ops : List Op) → ops ≡ flat e → flat (unflat ops) ≡ ops

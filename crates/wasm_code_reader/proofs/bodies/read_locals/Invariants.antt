@@ -3,7 +3,7 @@ use Rattle.std.proofs.Common.{◌≡◌, ◌≤◌, ◌-◌}
 use Rattle.ca_base.specs.Grammar.{read}
 use Rattle.ca_base.proofs.Times.{preceded}
 use Rattle.wasm_code_reader.specs.Bodies.{locals}
-use Rattle.wasm_module.specs.Locals.{local_count}
+use Rattle.syntax_trees.specs.Locals.{local_count}
 use Rattle.wasm_code_reader.proofs.bodies.read_locals.Given as goal
 
 abbrev pub invariant-loop-index : goal.invariant-loop-index

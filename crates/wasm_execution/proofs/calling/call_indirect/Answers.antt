@@ -2,7 +2,7 @@ use Rattle.std.proofs.Common.{refl, ap, ℕ, ◌∙◌, Option, Some, None}
 use Rattle.wasm_store.specs.Views.{instance_of, table_of, function_of}
 use Rattle.wasm_store.specs.Store.{type_of}
 use Rattle.wasm_execution.specs.Places.{frame_of}
-use Rattle.wasm_module.specs.declared.instr.Instr.TheVariants as instr
+use Rattle.syntax_trees.specs.declared.instr.Instr.TheVariants as instr
 use Rattle.wasm_execution.proofs.Popping.{popped_behind}
 use Rattle.wasm_execution.proofs.Calls.{through_ready, no_entry, null_entry, other_entry, entry_there, table_within, entry_seen, function_within, type_within, signature_seen}
 use Rattle.wasm_execution.proofs.calling.call_indirect.Goals as goal

@@ -1,5 +1,5 @@
 use Rattle.std.proofs.Common.{ap, sym, ◌∙◌, subst, length, ℕ, List}
-use Rattle.wasm_module.specs.declared.types.FuncType.{FuncType}
+use Rattle.syntax_trees.specs.declared.module_types.FuncType.{FuncType}
 use Rattle.wasm_typing.specs.Context.{params}
 use Rattle.wasm_store.specs.Views.{instance_of}
 use Rattle.wasm_execution.specs.Places.{frame_of}

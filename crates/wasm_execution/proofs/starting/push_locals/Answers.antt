@@ -1,5 +1,5 @@
 use Rattle.std.proofs.Common.{arith}
-use Rattle.wasm_module.specs.declared.types.ValType.TheVariants.{I32}
+use Rattle.syntax_trees.specs.declared.module_types.ValType.TheVariants.{I32}
 use Rattle.wasm_execution.proofs.FirstLocals.{group_pushed}
 use Rattle.wasm_execution.proofs.starting.push_locals.Goals as goal
 

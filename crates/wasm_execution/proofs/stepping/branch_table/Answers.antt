@@ -3,8 +3,8 @@ use Rattle.wasm_execution.specs.Places.{frame_of}
 use Rattle.wasm_execution.proofs.Taking.{br_table_ready}
 use Rattle.wasm_execution.proofs.Ready.{BranchReady}
 use Rattle.wasm_execution.proofs.Popping.{Popped, popped_back, ready_popped}
-use Rattle.wasm_module.specs.Expr.{Plain}
-use Rattle.wasm_module.specs.declared.instr.Instr.TheVariants as instr
+use Rattle.syntax_trees.specs.Expr.{Plain}
+use Rattle.syntax_trees.specs.declared.instr.Instr.TheVariants as instr
 use Rattle.wasm_execution.proofs.Going.{popped_table}
 use Rattle.wasm_execution.proofs.stepping.branch_table.Goals as goal
 

@@ -1,5 +1,5 @@
 use Rattle.std.proofs.Common.{refl, reverse}
-use Rattle.wasm_module.specs.declared.instr.Op.TheVariants as op
+use Rattle.syntax_trees.specs.declared.instr.Op.TheVariants as op
 use Rattle.wasm_execution.specs.Places.{frame_of}
 use Rattle.wasm_store.specs.Effects.{effect}
 use Rattle.wasm_execution.specs.declared.frame.Frame.{Frame}

@@ -4,7 +4,7 @@ use Rattle.ca_base.specs.Span.{Span}
 use Rattle.ca_base.specs.Grammar.{MayRead}
 use Rattle.ca_base.proofs.Whole.{whole_exact}
 use Rattle.wasm_code_reader.specs.declared.fault.ModuleWhy.{ModuleWhy}
-use Rattle.wasm_module.specs.declared.module.ModuleParts.{ModuleParts}
+use Rattle.wasm_typing.specs.declared.module_places.ModuleParts.{ModuleParts}
 use Rattle.wasm_reader.specs.Binary.{the_module, file, file_end}
 use Rattle.wasm_reader.proofs.Ended.{matches_whole}
 use Rattle.wasm_reader.proofs.reading.read_whole.Goals as goal

@@ -1,6 +1,6 @@
 use Rattle.std.proofs.Common.{◌∙◌, ap, List}
-use Rattle.wasm_module.specs.declared.types.ValType.{ValType}
-use Rattle.wasm_module.specs.SameTypes.{same_types}
+use Rattle.syntax_trees.specs.declared.module_types.ValType.{ValType}
+use Rattle.syntax_trees.specs.SameTypes.{same_types}
 use Rattle.wasm_typing.specs.Context.{arrow}
 use Rattle.wasm_store.proofs.Signatures.{both_same, not_same}
 use Rattle.wasm_store.proofs.function.is_like.Goals as goal

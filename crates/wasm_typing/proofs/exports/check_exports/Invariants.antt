@@ -1,7 +1,7 @@
 -- The first fault is that of the exports that are left, and the names that were seen are those of the others.
 use Rattle.std.proofs.Common.{◌≡◌, ℕ, List, [], map, take, drop}
-use Rattle.ca_base.specs.Faults.{first_in}
-use Rattle.ca_base.specs.Names.{has, is_among}
+use Rattle.faults.specs.Faults.{first_in}
+use Rattle.syntax_trees.specs.Names.{has, is_among}
 use Rattle.wasm_typing.specs.Items.{export_fault}
 use Rattle.wasm_typing.proofs.exports.check_exports.Given as goal
 

@@ -1,7 +1,7 @@
 use Rattle.std.proofs.Common.{◌<◌, ◌+◌, length, subst, arith}
 use Rattle.std.specs.Prelude.{List}
-use Rattle.wasm_module.specs.declared.instr.Op.{Op}
-use Rattle.wasm_module.specs.Expr.{flat}
+use Rattle.syntax_trees.specs.declared.instr.Op.{Op}
+use Rattle.syntax_trees.specs.Expr.{flat}
 use Rattle.wasm_valid.proofs.Driving.{stops, ends_all, more_code, op_in}
 use Rattle.wasm_valid.proofs.walk.body_fault.Goals as goal
 

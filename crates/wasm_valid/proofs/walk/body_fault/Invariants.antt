@@ -1,6 +1,6 @@
 -- So many items passed, and the fault of what is left is that of all.
-use Rattle.wasm_module.specs.declared.instr.BlockType.TheVariants.{TypeIndex}
-use Rattle.wasm_module.specs.Expr.{flat}
+use Rattle.syntax_trees.specs.declared.instr.BlockType.TheVariants.{TypeIndex}
+use Rattle.syntax_trees.specs.Expr.{flat}
 use Rattle.wasm_typing.specs.Checking.{begins}
 use Rattle.wasm_valid.specs.State.{all_of}
 use Rattle.wasm_valid.proofs.Driving.{IsChecking}

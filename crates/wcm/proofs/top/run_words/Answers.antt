@@ -1,7 +1,7 @@
 use Rattle.std.proofs.Common.{◌≡◌, [], Option, Some, None, false, refl, sym, subst, map, string_bytes, inl}
-use Rattle.ca_base.specs.Faults.{IfFault}
-use Rattle.ca_base.specs.declared.memory.MemoryOr.{MemoryOr}
-use Rattle.ca_base.specs.declared.memory.MemoryOr.TheVariants.{Fault}
+use Rattle.faults.specs.Faults.{IfFault}
+use Rattle.faults.specs.declared.memory.MemoryOr.{MemoryOr}
+use Rattle.faults.specs.declared.memory.MemoryOr.TheVariants.{Fault}
 use Rattle.command_words.specs.Words.{Request, request_of, is_taken}
 use Rattle.command_words.proofs.Plain.{plain_is}
 use Rattle.wcm.specs.Answers.{usage_answer}

@@ -1,7 +1,7 @@
 use Rattle.std.proofs.Common.{subst, sym, refl, ◌<◌, ◌≤◌, List, Result, length, get_or}
-use Rattle.ca_types.specs.declared.core_type.CoreType.{CoreType}
-use Rattle.ca_types.specs.declared.value.Value.{Value}
-use Rattle.ca_base.specs.Faults.{MayMake}
+use Rattle.syntax_trees.specs.declared.core_type.CoreType.{CoreType}
+use Rattle.syntax_trees.specs.declared.value.Value.{Value}
+use Rattle.faults.specs.Faults.{MayMake}
 use Rattle.value_lift.specs.declared.trap.LiftTrap.{LiftTrap}
 use Rattle.world.proofs.LiftedResults.{lifted_from_memory, lifted_from_words}
 use Rattle.world.proofs.results.lift_result.Goals as goal

@@ -1,5 +1,5 @@
 use Rattle.std.proofs.Common.{ap, subst, List}
-use Rattle.ca_types.specs.declared.types.ValType.{ValType}
+use Rattle.syntax_trees.specs.declared.types.ValType.{ValType}
 use Rattle.comp_graph.specs.Passed.{TypeTable, IsNumbered}
 use Rattle.comp_graph.proofs.FuncsPassed.{func_read}
 use Rattle.comp_graph.proofs.func_types.FuncTypes.func.Goals as goal

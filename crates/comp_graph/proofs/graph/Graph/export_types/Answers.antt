@@ -1,6 +1,6 @@
 use Rattle.std.proofs.Common.{◌≡◌, ◌<◌, ℕ, List, length, Some, sym, subst}
 use Rattle.std.specs.List.{slice_get}
-use Rattle.ca_types.specs.declared.exports.Export.{Export}
+use Rattle.syntax_trees.specs.declared.exports.Export.{Export}
 use Rattle.comp_graph.specs.Graph.{Graph}
 use Rattle.comp_graph.specs.Passed.{AreExportTypes, HaveNumbers}
 use Rattle.comp_graph.proofs.FuncsPassed.{number_within, beside_number, passed_by}

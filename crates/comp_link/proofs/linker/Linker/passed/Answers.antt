@@ -1,6 +1,6 @@
 use Rattle.std.proofs.Common.{◌≡◌, ◌∙◌, List, sym, subst}
 use Rattle.std.specs.Prelude.{Ok, Err, MatchResult}
-use Rattle.ca_base.specs.Faults.{IfFault}
+use Rattle.faults.specs.Faults.{IfFault}
 use Rattle.comp_graph.specs.Graph.{CoreMake}
 use Rattle.link_spec.specs.Definitions.{CoreExport}
 use Rattle.link_spec.specs.Computed.{imports_outcome}

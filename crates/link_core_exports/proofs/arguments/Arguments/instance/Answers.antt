@@ -2,7 +2,7 @@ use Rattle.std.proofs.Common.{◌∙◌, ap, List, ℕ, Option}
 use Rattle.std.specs.List.{slice_get, find}
 use Rattle.std.specs.Option.{option_and_then, option_map}
 use Rattle.std.specs.Str.{bytes_eq}
-use Rattle.ca_base.proofs.FirstNamed.{found_by_name}
+use Rattle.syntax_trees.proofs.FirstNamed.{found_by_name}
 use Rattle.comp_tree.specs.declared.core_instances.CoreArgument.{CoreArgument}
 use Rattle.link_core_exports.proofs.arguments.Arguments.instance.Goals as goal
 

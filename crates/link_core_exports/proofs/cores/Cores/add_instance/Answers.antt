@@ -1,6 +1,6 @@
 use Rattle.std.proofs.Common.{◌≡◌, ℕ, ◌++◌, ◌∷◌, [], List, Some, ◌∙◌, refl, sym, ap}
 use Rattle.std.specs.List.{slice_get}
-use Rattle.wasm_module.specs.declared.module.ModuleTree.{ModuleTree}
+use Rattle.syntax_trees.specs.declared.module.ModuleTree.{ModuleTree}
 use Rattle.comp_graph.specs.Graph.{CoreMake}
 use Rattle.link_core_exports.specs.declared.modules.CoreModules.{CoreModules}
 use Rattle.link_core_exports.specs.Cores.{CoreLists}

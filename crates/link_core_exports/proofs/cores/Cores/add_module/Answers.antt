@@ -1,6 +1,6 @@
 use Rattle.std.proofs.Common.{◌≡◌, ◌++◌, ◌∷◌, [], List, ◌∙◌, refl, ap}
-use Rattle.wasm_module.specs.declared.types.FuncType.{FuncType}
-use Rattle.wasm_module.specs.declared.module.ModuleTree.{ModuleTree}
+use Rattle.syntax_trees.specs.declared.module_types.FuncType.{FuncType}
+use Rattle.syntax_trees.specs.declared.module.ModuleTree.{ModuleTree}
 use Rattle.link_core_exports.specs.declared.modules.CoreModules.{CoreModules}
 use Rattle.link_core_exports.proofs.CoresKept.{modules_same, modules_added}
 use Rattle.link_core_exports.proofs.cores.Cores.add_module.Goals as goal

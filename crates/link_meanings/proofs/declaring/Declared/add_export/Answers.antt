@@ -1,7 +1,7 @@
 use Rattle.std.proofs.Common.{◌≡◌, ◌∙◌, ◌≤◌, ◌+◌, ℕ, List, refl, ap, ap₂, sym, subst}
 use Rattle.std.specs.Prelude.{◌||◌, not}
 use Rattle.std.specs.Str.{bytes_eq}
-use Rattle.ca_base.specs.Names.{has}
+use Rattle.syntax_trees.specs.Names.{has}
 use Rattle.comp_tree.specs.declared.instances.Sort.{Sort}
 use Rattle.link_values.specs.Resources.{resource_room}
 use Rattle.link_spec.specs.Types.{described, brings, declared_as, sort_of}

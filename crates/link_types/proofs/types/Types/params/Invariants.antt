@@ -1,7 +1,7 @@
 -- The layer so far stands for the parameters from this place on.
 use Rattle.std.proofs.Common.{◌≤◌, length, drop, List}
 use Rattle.std.specs.List.{AllZip}
-use Rattle.ca_types.specs.declared.types.Param.{Param}
+use Rattle.syntax_trees.specs.declared.types.Param.{Param}
 use Rattle.link_types.specs.Layered.{IsParams}
 use Rattle.link_types.specs.Labels.{IsParam}
 use Rattle.link_types.specs.Table.{Grows}

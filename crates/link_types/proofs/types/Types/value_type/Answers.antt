@@ -1,5 +1,5 @@
 use Rattle.std.proofs.Common.{List, subst, sym}
-use Rattle.ca_types.specs.declared.types.ValType.{ValType}
+use Rattle.syntax_trees.specs.declared.types.ValType.{ValType}
 use Rattle.laid_types.specs.Layers.{AreThere, type_of, part_numbers}
 use Rattle.link_types.specs.Table.{IsValue}
 use Rattle.link_types.proofs.TypesGrow.{grows_trans}

@@ -1,5 +1,5 @@
 use Rattle.std.proofs.Common.{◌≡◌, ◌∙◌, ℕ, List, inl}
-use Rattle.ca_types.specs.declared.types.ValType.{ValType}
+use Rattle.syntax_trees.specs.declared.types.ValType.{ValType}
 use Rattle.laid_types.specs.Layers.{type_of}
 use Rattle.link_values.specs.Labels.{texts}
 use Rattle.link_values.proofs.KeyOfType.{key_now, found_now, added_now}

@@ -1,6 +1,6 @@
 use Rattle.std.proofs.Common.{ap, ◌∙◌, length, ℕ}
-use Rattle.wasm_module.specs.Expr.{Expr, flat, left_at}
-use Rattle.wasm_module.proofs.Walking.{left_none}
+use Rattle.syntax_trees.specs.Expr.{Expr, flat, left_at}
+use Rattle.syntax_trees.proofs.Walking.{left_none}
 use Rattle.wasm_code.proofs.code.Code.len.Goals as goal
 
 pub returns-clause-end : goal.returns-clause-end

@@ -1,5 +1,5 @@
 use Rattle.std.proofs.Common.{◌≡◌, [], length, refl, ap, sym, ◌∙◌, None}
-use Rattle.wasm_module.specs.Expr.{Expr, left_at}
+use Rattle.syntax_trees.specs.Expr.{Expr, left_at}
 use Rattle.wasm_execution.specs.declared.frame.OpenLabel.{OpenLabel}
 use Rattle.wasm_execution.proofs.Changing.{begins, first_label}
 use Rattle.wasm_execution.proofs.frame.Frame.begin.Goals as goal

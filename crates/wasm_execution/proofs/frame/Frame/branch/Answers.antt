@@ -1,6 +1,6 @@
 use Rattle.std.proofs.Common.{◌≡◌, ◌+◌, ◌-◌, ◌≤◌, ℕ, vec_len, arith, length, reverse, refl, ap, sym, ◌∙◌, Option, Some, None, rules}
 use Rattle.std.specs.Option.{option_map}
-use Rattle.wasm_module.specs.Expr.{Expr, left_at}
+use Rattle.syntax_trees.specs.Expr.{Expr, left_at}
 use Rattle.wasm_store.specs.Stack as stack
 use Rattle.wasm_store.specs.Step.{landed}
 use Rattle.wasm_execution.specs.declared.frame.OpenLabel.{OpenLabel}

@@ -1,4 +1,4 @@
-use Rattle.wasm_module.specs.declared.instr.Op.TheVariants.{OpenBlock, OpenLoop, OpenIf}
+use Rattle.syntax_trees.specs.declared.instr.Op.TheVariants.{OpenBlock, OpenLoop, OpenIf}
 use Rattle.wasm_execution.proofs.Seeing.{op_rest}
 use Rattle.wasm_execution.proofs.frame.Frame.control.Goals as goal
 

@@ -1,5 +1,5 @@
 use Rattle.std.proofs.Common.{◌≡◌, ◌-◌, ◌+◌, length, ℕ, refl, ap, Some, rules}
-use Rattle.wasm_module.specs.Expr.{left_at, behind_op}
+use Rattle.syntax_trees.specs.Expr.{left_at, behind_op}
 use Rattle.wasm_code.specs.Jumps as jumps
 use Rattle.wasm_execution.specs.declared.frame.OpenLabel.{OpenLabel}
 use Rattle.wasm_execution.specs.Shape.{first_part}

@@ -1,5 +1,5 @@
 use Rattle.std.proofs.Common.{reverse, refl}
-use Rattle.wasm_module.specs.Expr.{left_at}
+use Rattle.syntax_trees.specs.Expr.{left_at}
 use Rattle.wasm_execution.proofs.Changing.{more, same_frames}
 use Rattle.wasm_execution.proofs.frame.Frame.give.Goals as goal
 

@@ -1,5 +1,5 @@
 use Rattle.std.proofs.Common.{◌≡◌, [], length, reverse, min, refl, ap, sym, ◌∙◌, arith, List}
-use Rattle.wasm_module.specs.Expr.{Expr, tree_of, left_at}
+use Rattle.syntax_trees.specs.Expr.{Expr, tree_of, left_at}
 use Rattle.wasm_execution.specs.declared.frame.OpenLabel.{OpenLabel}
 use Rattle.wasm_execution.specs.Places.{labels_of}
 use Rattle.wasm_execution.proofs.Changing.{same_frames}

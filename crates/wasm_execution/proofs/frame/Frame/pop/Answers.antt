@@ -1,5 +1,5 @@
 use Rattle.std.proofs.Common.{◌≡◌, ◌-◌, ℕ, length, vec_len, reverse, take, refl, ap, ◌∙◌, rules}
-use Rattle.wasm_module.specs.Expr.{left_at}
+use Rattle.syntax_trees.specs.Expr.{left_at}
 use Rattle.wasm_execution.proofs.Changing.{fewer, same_frames}
 use Rattle.wasm_execution.proofs.frame.Frame.pop.Goals as goal
 

@@ -1,7 +1,7 @@
 -- Each part is the one that a function made.
 use Rattle.std.proofs.Common.{◌≡◌, ◌∷◌, [], ℕ, List, length, ap, ◌∙◌, map, refl, rules, arith, sym}
 use Rattle.std.proofs.lemmas.List.{length-map}
-use Rattle.wasm_module.specs.declared.types.FuncType.{FuncType}
+use Rattle.syntax_trees.specs.declared.module_types.FuncType.{FuncType}
 use Rattle.wasm_store.specs.Store.{Store}
 use Rattle.wasm_store.specs.Instantiation.{new_func, new_table, new_memory, instance_of as new_instance}
 use Rattle.wasm_store.specs.Instantiation.{imported_globals, new_global}

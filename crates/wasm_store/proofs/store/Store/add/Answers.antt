@@ -3,9 +3,9 @@ use Rattle.std.proofs.Common.{◌≡◌, List, length, map, Some, ap, ◌∙◌,
 use Rattle.std.proofs.lemmas.Result.{err_from_is_err_and}
 use Rattle.std.proofs.lemmas.List.{length-map}
 use Rattle.std.specs.List.{slice_get}
-use Rattle.wasm_module.specs.declared.module.ElementSegment.{ElementSegment}
-use Rattle.wasm_module.specs.declared.module.DataSegment.{DataSegment}
-use Rattle.wasm_module.specs.declared.module.ModuleTree.{ModuleTree}
+use Rattle.syntax_trees.specs.declared.module.ElementSegment.{ElementSegment}
+use Rattle.syntax_trees.specs.declared.module.DataSegment.{DataSegment}
+use Rattle.syntax_trees.specs.declared.module.ModuleTree.{ModuleTree}
 use Rattle.wasm_store.specs.Store.{Instance, Store}
 use Rattle.wasm_store.specs.Instantiation.{External as Address, InRange, element_written, data_written}
 use Rattle.wasm_store.specs.Parts.{ElementsFit, Written}

@@ -1,5 +1,5 @@
 use Rattle.std.proofs.Common.{◌≡◌, ◌<◌, ◌≤◌, ◌-◌, ℕ, length, get_or, sym, ap, ◌∙◌, arith, Some, Option}
-use Rattle.wasm_module.specs.declared.instr.BlockType.{BlockType}
+use Rattle.syntax_trees.specs.declared.instr.BlockType.{BlockType}
 use Rattle.wasm_typing.specs.declared.block.BlockKind.{BlockKind}
 use Rattle.wasm_valid.specs.declared.open_block.OpenBlock.{OpenBlock}
 use Rattle.wasm_valid.proofs.Stacks.{block_there, block_none}

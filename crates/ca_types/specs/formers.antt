@@ -1,2 +1,0 @@
-pub mod boxed
-pub mod shared

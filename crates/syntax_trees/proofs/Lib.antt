@@ -1,0 +1,11 @@
+pub mod Distinct
+pub mod FirstNamed
+pub mod Seen
+pub mod Folds
+pub mod Parts
+pub mod FlatEquations
+pub mod Joins
+pub mod FitsEquations
+pub mod WriterEquations
+pub mod Same
+pub mod Walking

@@ -1,0 +1,16 @@
+pub mod formers
+pub mod Names
+pub mod Texts
+pub mod Ends
+pub mod Flat
+pub mod Fits
+pub mod CharText
+pub mod NameText
+pub mod TypeText
+pub mod ValueText
+pub mod Accesses
+pub mod BlockTypes
+pub mod Expr
+pub mod Limited
+pub mod Locals
+pub mod SameTypes

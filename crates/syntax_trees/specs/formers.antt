@@ -1,0 +1,3 @@
+pub mod boxed
+pub mod seq
+pub mod shared

@@ -1,0 +1,7 @@
+-- The items so far are written.
+use Rattle.std.proofs.Common.{◌≡◌, ◌++◌, take}
+use Rattle.std.specs.List.{flat_map}
+use Rattle.value_texts.proofs.text.push_all.Given as goal
+
+abbrev pub invariant-loop-item : goal.invariant-loop-item
+invariant-loop-item g l = l.to.items ≡ l.initial.to.items ++ flat_map g.T.Text.text (take l.item-index l.items)

@@ -1,7 +1,0 @@
--- The types of the groups so far stand behind the parameters.
-use Rattle.std.proofs.Common.{◌≡◌, take}
-use Rattle.wasm_module.specs.Locals.{local_types}
-use Rattle.wasm_module.proofs.locals.local_types.Given as goal
-
-abbrev pub invariant-loop-group : goal.invariant-loop-group
-invariant-loop-group l = l.types.items ≡ local_types l.func_type (take l.group-index l.locals)
