@@ -2,34 +2,16 @@
 use Rattle.std.proofs.Common.{◌≡◌, ◌∙◌, ℕ, Bool, true, false, List, refl, ap, Option, Some, None}
 use Rattle.std.specs.Prelude.{Result, Ok, Err}
 use Rattle.std.specs.List.{slice_get, list_all}
-use Rattle.syntax_trees.specs.declared.types.FuncType.{FuncType}
 use Rattle.comp_tree.specs.declared.items.CanonOption.{CanonOption}
 use Rattle.comp_graph.specs.declared.graph.BuiltinKind.{BuiltinKind}
 use Rattle.link_spec.specs.declared.fault.LinkWhy.{LinkWhy}
 use Rattle.link_spec.specs.declared.fault.LinkWhy.TheVariants as why
 use Rattle.link_spec.specs.Definitions.{Lifted}
 use Rattle.link_spec.specs.Spaces.{Spaces, Linking}
-use Rattle.link_spec.specs.Canons.{Given, given_by, stand_once, is_option_there, can_be_lowered}
+use Rattle.link_spec.specs.Canons.{given_by, is_option_there}
 use Rattle.link_spec.specs.Builtins.{BuiltinMeaning}
 use Rattle.link_spec.specs.Items.{lower_made, builtin_made}
 use Rattle.link_spec.specs.Computed.{Outcome, Makes, after, there_or, only_if, lowered_from, lower_outcome, builtin_outcome}
-
--- That a function can be lowered, by its tests.
-abbrev lower_tests : Bool → Bool → Given → Result Given LinkWhy
-lower_tests once lowers given = only_if once why.Canon (only_if lowers why.Canon (Ok given))
-
-module _ (type : FuncType) (options : List CanonOption) (given : Given) where
-  pub not_once : stand_once options ≡ false → lowered_from type options given ≡ Err why.Canon
-  not_once once = ap (λ (b : Bool). lower_tests b (can_be_lowered type given) given) once
-
-  tests_left : stand_once options ≡ true → lowered_from type options given ≡ lower_tests true (can_be_lowered type given) given
-  tests_left once = ap (λ (b : Bool). lower_tests b (can_be_lowered type given) given) once
-
-  pub not_lowered : stand_once options ≡ true → can_be_lowered type given ≡ false → lowered_from type options given ≡ Err why.Canon
-  not_lowered once lowers = tests_left once ∙ ap (λ (b : Bool). lower_tests true b given) lowers
-
-  pub is_lower : stand_once options ≡ true → can_be_lowered type given ≡ true → lowered_from type options given ≡ Ok given
-  is_lower once lowers = tests_left once ∙ ap (λ (b : Bool). lower_tests true b given) lowers
 
 -- What a lower comes to where its parts are there or not.
 module _ (l : Linking) (n : ℕ) (s : Spaces) (f : ℕ) (options : List CanonOption) where

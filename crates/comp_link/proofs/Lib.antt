@@ -1,22 +1,9 @@
-mod Asked
-mod Calling
 pub mod CanonParts
-pub mod CoreParts
 mod EndsFound
-pub mod Filling
-pub mod Growth
-mod Keeping
-pub mod LevelsSeen
-pub mod Loops
-pub mod NamedSteps
+pub mod LiftParts
 mod Passing
-mod Reaching
+pub mod Readying
 mod ResourceParts
-pub mod Scopes
 pub mod SeenTold
-pub mod States
-pub mod Steps
-pub mod Told
 pub mod Wanting
 mod Whole
-pub mod Zips

@@ -1,9 +1,8 @@
 -- What is told of items that are gone through.
-use Rattle.std.proofs.Common.{◌≡◌, ◌<◌, ◌≤◌, ◌+◌, ℕ, zero, suc, List, [], ◌∷◌, length, drop, get_or, Bor, refl, sym, ◌∙◌, ap, subst, arith, Option, Some}
+use Rattle.std.proofs.Common.{◌≡◌, ◌<◌, ◌≤◌, ◌+◌, ℕ, zero, suc, List, ◌∷◌, length, drop, get_or, Bor, refl, sym, ◌∙◌, ap, subst, Option, Some}
 use Rattle.std.specs.Prelude.{Result, Ok, Err, OnOk}
 use Rattle.std.specs.List.{slice_get}
 use Rattle.std.proofs.lemmas.List.{drop_more, drop_all}
-use Rattle.std.proofs.lemmas.Slice.Zip.{AllZip-long}
 use Rattle.ca_base.specs.declared.placed.Placed.{Placed}
 use Rattle.faults.specs.declared.memory.MemoryOr.{MemoryOr}
 use Rattle.faults.specs.declared.memory.MemoryOr.TheVariants.{Memory, Fault}
@@ -18,16 +17,18 @@ use Rattle.link_spec.specs.Linked.{begun, with_instance}
 use Rattle.link_spec.specs.Computed.{after, Outcome, Makes, Starts, outcome_case, item_outcome, Run, behind, placed_at, step, run, run_within}
 use Rattle.link_instances.specs.References.{IsInstance}
 use Rattle.link_instances.specs.declared.references.InstanceRef.{InstanceRef}
-use Rattle.comp_link.specs.declared.linker.Linker.{Linker}
-use Rattle.comp_link.specs.declared.instances.Next.{Next}
-use Rattle.comp_link.specs.declared.instances.Next.TheVariants as next
-use Rattle.comp_link.specs.State.{world_of, IsKept, IsLive, IsState, Stands, IsAt, IsMade}
-use Rattle.comp_link.specs.Told.{IsReason, IsTold}
-use Rattle.comp_link.specs.Next.{IsNext}
-use Rattle.comp_link.specs.Reached.{IsReached, component_begins}
-use Rattle.comp_link.specs.Running.{inside, next_of}
-use Rattle.comp_link.proofs.Keeping.{maker_stays}
-use Rattle.comp_link.proofs.Reaching.{step_reached}
+use Rattle.link_parts.specs.Told.{IsReason, IsTold}
+use Rattle.link_state.specs.declared.linker.Linker.{Linker}
+use Rattle.link_state.specs.declared.instances.Next.{Next}
+use Rattle.link_state.specs.declared.instances.Next.TheVariants as next
+use Rattle.link_state.specs.State.{world_of, IsLive, Stands, IsAt, IsMade}
+use Rattle.link_state.specs.Next.{IsNext}
+use Rattle.link_state.specs.Reached.{IsReached, component_begins}
+use Rattle.link_state.specs.Running.{inside}
+use Rattle.link_state.proofs.Keeping.{maker_stays}
+use Rattle.link_state.proofs.Reaching.{step_reached}
+use Rattle.link_state.proofs.States.{spaces_at}
+use Rattle.comp_link.specs.Placed.{next_of}
 
 -- what calls answer that go on
 abbrev pub done : Result (Unit {0}) (MemoryOr LinkFault)
@@ -59,21 +60,6 @@ pub item_told : (k : Linker) (l : Linking) (n : ℕ) (s : Spaces) (item : Item) 
 item_told k l n s item shape is made x e h =
     subst (λ (x : Result Next (MemoryOr LinkWhy)). IsTold (IsNext k l) x (item_outcome l n s item)) (sym e)
     (subst (λ (f : Item-F Item Component). IsTold (IsNext k l) (next_of made) (outcome_case l n s f)) (sym is) (next_told k l made (outcome_case l n s shape) h))
-
--- A component instance that has begun is there.
-there_at : {A : Type 0} (xs : List A) (n : ℕ) → n < length xs → (x : A) × (slice_get xs n ≡ Some x)
-there_at [] n h = absurd (omega arith)
-there_at (x ∷ xs) zero h = (x, refl)
-there_at (x ∷ xs) (suc n) h = there_at xs n (omega arith)
-
-pub as_many : (bases : List Exports) (k : Linker) (l : Linking) → IsState bases k l → length l.scopes ≡ length k.scopes.items
-as_many bases k l h = AllZip-long (IsKept k.types (world_of bases k)) k.scopes.items l.scopes h.scopes
-
-pub spaces_at : (bases : List Exports) (k : Linker) (l : Linking) (n : ℕ) → IsState bases k l → n < length k.scopes.items → IsLive k n → (s : Spaces) × IsAt bases k n l s
-spaces_at bases k l n h within live =
-    let same = as_many bases k l h in
-    let s = there_at l.scopes n (omega (arith, same, within)) in
-    (s.0, record { state = h; there = s.1; live = live })
 
 -- One item.
 

@@ -20,9 +20,9 @@ use Rattle.link_instances.specs.declared.fitting.Fit.{Fit}
 use Rattle.link_instances.specs.declared.fitting.Fit.TheVariants as answer
 use Rattle.link_instances.specs.References.{World, Stands}
 use Rattle.link_instances.specs.Fit.{IsFit}
-use Rattle.comp_link.specs.Told.{IsReason, IsTold}
+use Rattle.link_parts.specs.Told.{IsReason, IsTold}
+use Rattle.link_state.proofs.Steps.{missing_told}
 use Rattle.comp_link.specs.Ready.{as_wanted, IsSeen}
-use Rattle.comp_link.proofs.Steps.{missing_told}
 
 -- an answer that is there
 pub fit_of_ok : {E : Type 0} (t : Table) (d : Definition) (x : Extern) (result : Result Fit E) (fit : Fit) → result ≡ Ok fit → IfOk result (IsFit t d x) → IsFit t d x fit

@@ -1,8 +1,7 @@
 -- What an import or an export comes to, behind what a definition is seen as.
-use Rattle.std.proofs.Common.{◌≡◌, ◌<◌, ◌≤◌, ℕ, Bool, true, false, not, nat_lt, List, refl, ap, subst, arith, Option, Some, None}
+use Rattle.std.proofs.Common.{◌≡◌, ◌<◌, ◌≤◌, ℕ, Bool, true, false, not, List, refl, ap, subst, Option, Some, None}
 use Rattle.std.specs.Prelude.{Result, Ok, Err}
 use Rattle.std.specs.Option.{option_and_then}
-use Rattle.std.proofs.lemmas.Bool.Decides.{nat_tests}
 use Rattle.syntax_trees.specs.Names.{is_among}
 use Rattle.faults.specs.declared.memory.MemoryOr.{MemoryOr}
 use Rattle.faults.specs.declared.memory.MemoryOr.TheVariants as memory
@@ -23,15 +22,9 @@ use Rattle.link_types.specs.Table.{Table}
 use Rattle.link_values.specs.declared.refs.InstanceTypeRef.{InstanceTypeRef}
 use Rattle.link_instances.specs.declared.references.DefinitionRef.{DefinitionRef}
 use Rattle.link_instances.specs.References.{World, Stands}
-use Rattle.comp_link.specs.Told.{IsReason, IsTold}
+use Rattle.link_parts.specs.Told.{IsReason, IsTold}
+use Rattle.link_state.proofs.Loops.{lt_true, lt_false}
 use Rattle.comp_link.specs.Ready.{as_wanted, IsSeen, IsTypesOf, IsGiven, imported, exported}
-
--- numbers as tests
-pub lt_true : (a b : ℕ) → a < b → nat_lt a b ≡ true
-lt_true a b h = grind (arith, nat_tests)
-
-pub lt_false : (a b : ℕ) → b ≤ a → nat_lt a b ≡ false
-lt_false a b h = grind (arith, nat_tests)
 
 -- what is answered where a name stands there already or what is wanted is not what is there
 abbrev pub wants : Option (List ℕ) → Bool → Result Definition LinkWhy → (Definition → Outcome) → Result Outcome LinkWhy

@@ -13,10 +13,11 @@ use Rattle.link_spec.specs.Linked.{root_begun, graph_of, IsLinked, HasRoom, IsLi
 use Rattle.link_spec.specs.Computed.{run_within, answer_of, linked}
 use Rattle.link_spec.proofs.Running.{links_within, graph_computed, fault_computed}
 use Rattle.link_spec.proofs.Few.{graphs_are_few}
-use Rattle.comp_link.specs.declared.linker.Linker.{Linker}
-use Rattle.comp_link.specs.State.{type_table, Stands}
-use Rattle.comp_link.specs.Told.{IsReason, IsTold}
-use Rattle.comp_link.proofs.Passing.{done, as_many}
+use Rattle.link_parts.specs.Told.{IsReason, IsTold}
+use Rattle.link_state.specs.declared.linker.Linker.{Linker}
+use Rattle.link_state.specs.State.{type_table, Stands}
+use Rattle.link_state.proofs.States.{as_many}
+use Rattle.comp_link.proofs.Passing.{done}
 
 abbrev gone : Component → Result Linking LinkFault
 gone c = run_within instance_limit root_begun 0 c.items

@@ -1,6 +1,2 @@
-pub mod Next
-pub mod Reached
+pub mod Placed
 pub mod Ready
-pub mod Running
-pub mod State
-pub mod Told

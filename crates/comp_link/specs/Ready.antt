@@ -17,8 +17,8 @@ use Rattle.link_types.specs.Table.{Table, IsType, IsInstanceType}
 use Rattle.link_instances.specs.declared.references.LiftedRef.{LiftedRef}
 use Rattle.link_instances.specs.declared.references.DefinitionRef.{DefinitionRef}
 use Rattle.link_instances.specs.References.{World, IsLifted, Stands}
-use Rattle.comp_link.specs.declared.linker.Linker.{Linker}
-use Rattle.comp_link.specs.State.{world_of, IsState}
+use Rattle.link_state.specs.declared.linker.Linker.{Linker}
+use Rattle.link_state.specs.State.{world_of, IsState}
 
 -- The reference stands for the definition of which an item makes this outcome. The linker stands for the linking still.
 pub record IsReady (k : Linker) (l : Linking) (make : Definition → Outcome) (ref : DefinitionRef) (outcome : Outcome) : Type 0 where

@@ -8,16 +8,16 @@ ghost use Rattle.link_spec.specs.Spaces.{Spaces, Linking, outer_at};
 ghost use Rattle.link_spec.specs.Computed.{alias_outcome};
 ghost use Rattle.link_instances.specs.References as references;
 ghost use Rattle.link_meanings.specs.Meant.{IsFoundAs};
-ghost use Rattle.comp_link.specs.State.{world_of, IsAt, IsMade, ended};
-ghost use Rattle.comp_link.specs.Told.{IsTold};
+ghost use Rattle.link_parts.specs.Told.{IsTold};
+ghost use Rattle.link_state.specs.State.{world_of, IsAt, IsMade, ended};
 
-use crate::core_aliases::link_core_alias;
-use crate::link_fault::{ItemError, missing};
-use crate::linker::Linker;
 use comp_tree::{Alias, AliasTarget, Sort};
 use faults::MemoryOr;
+use link_core_exports::missing;
 use link_instances::DefinitionRef;
+use link_parts::ItemError;
 use link_spec::LinkWhy;
+use link_state::{Linker, link_core_alias};
 use std::alloc::Global;
 use syntax_trees::Name;
 

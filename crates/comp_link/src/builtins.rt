@@ -1,19 +1,17 @@
 //! Linking of built-ins.
 
-ghost use Rattle.std.specs.Prelude.{◌≡◌, ◌<◌, ◌&&◌, ℕ, false, nat_lt, List, map, Option, Some, IfOk, OnOk, length};
+ghost use Rattle.std.specs.Prelude.{◌≡◌, ◌<◌, ◌&&◌, ℕ, nat_lt, List, map, Option, Some, IfOk, OnOk, length};
 ghost use Rattle.std.specs.List.{slice_get};
 ghost use Rattle.std.specs.Option.{option_and_then};
 ghost use Rattle.syntax_trees.specs.declared.types.ValType.{ValType};
 ghost use Rattle.comp_tree.specs.declared.builtins.CanonBuiltin.TheVariants as read_builtin;
 ghost use Rattle.comp_graph.specs.CoreItems.{core_memory_of};
-ghost use Rattle.comp_graph.specs.Needs.{task_return_needs_memory};
 ghost use Rattle.comp_graph.specs.Passed.{MayBeAt};
 ghost use Rattle.link_spec.specs.Definitions.{Exports};
 ghost use Rattle.link_spec.specs.Spaces.{Spaces, Linking};
-ghost use Rattle.link_spec.specs.Canons as canons;
 ghost use Rattle.link_spec.specs.ValueTypes.{close_passed};
 ghost use Rattle.link_spec.specs.ValueTypes as value_types;
-ghost use Rattle.link_spec.specs.Builtins.{are_options_there, return_meaning, builtin_meaning};
+ghost use Rattle.link_spec.specs.Builtins.{are_options_there, builtin_meaning};
 ghost use Rattle.link_spec.specs.Items.{builtin_made};
 ghost use Rattle.link_spec.specs.Computed.{Makes, builtin_outcome};
 ghost use Rattle.link_types.specs.Table.{Table};
@@ -21,28 +19,21 @@ ghost use Rattle.link_instances.specs.References.{World};
 ghost use Rattle.link_meanings.specs.Meant.{IsFoundAs};
 ghost use Rattle.canon_types.specs.declared.builtins.Built.{Built};
 ghost use Rattle.canon_types.specs.Built.{IsBuilt, IsBuiltinMeaning};
-ghost use Rattle.comp_link.specs.State.{IsScope, IsAt, IsMade, ended};
-ghost use Rattle.comp_link.specs.Told.{IsTold};
+ghost use Rattle.link_parts.specs.Told.{IsTold};
+ghost use Rattle.link_state.specs.State.{IsScope, IsAt, IsMade, ended};
 
 use crate::ends::end_at;
-use crate::link_fault::ItemError;
-use crate::linker::Linker;
 use crate::resources::resource_at;
-use crate::scope::Scope;
-use crate::used::can_be_used;
 use builtin_kinds::WaitOp;
-use canon_types::{
-    Built, BuiltinMeant, context_builtin, held_type, plain_builtin, return_builtin,
-    return_needs_memory, stand_once, wait_builtin,
-};
+use canon_types::{Built, BuiltinMeant, context_builtin, plain_builtin, wait_builtin};
 use comp_graph::CoreRef;
 use comp_tree::{CanonBuiltin, CanonOption, CoreSort, Sort, ValTypeRef};
 use faults::MemoryOr;
-use laid_types::LaidType;
-use link_core_exports::Given;
+use link_items::returning;
 use link_meanings::held_value;
+use link_parts::ItemError;
 use link_spec::{LinkWhy, held_within};
-use link_types::Types;
+use link_state::{Linker, Scope};
 use std::alloc::{AllocError, Global};
 
 /// Whether a type is there.
@@ -85,42 +76,6 @@ fn passed_at(
 {
     let own = linker.scopes[n].types.as_slice();
     held_value(alloc, &mut linker.types, own, val_type)
-}
-
-/// Whether what options give serves a built-in that returns a result of this type, where no option stands twice.
-fn can_return(given: &Given<'_>, returned: &Option<LaidType<'_>>, once: bool) -> bool
-    ensures { result ≡ (canons.can_be_used (task_return_needs_memory returned.now) false given.now && once) }
-{
-    can_be_used(given, return_needs_memory(returned), false) && once
-}
-
-/// What a built-in comes to that returns a result of the type of a number, where that is found, with what options give.
-fn returning(
-    alloc: Global,
-    types: &Types<'_>,
-    is_there: bool,
-    passed: Option<Option<usize>>,
-    options: &[CanonOption],
-    given: &Given<'_>,
-) -> Result<BuiltinMeant, AllocError>
-    ensures { IfOk result (λ m. (found : Option (Option ValType)) → IsFoundAs (MayBeAt types.now.values) passed found → IsBuiltinMeaning types.now.values m (return_meaning is_there found options.now given.now)) }
-{
-    let once = stand_once(options);
-    let Some(number) = passed else {
-        return Ok(BuiltinMeant {
-            is_there,
-            means: None,
-            serves: once,
-        });
-    };
-    let returned = held_type(types, number);
-    let serves = can_return(given, &returned, once);
-    let made = return_builtin(alloc, number, &returned, given.options())?;
-    Ok(BuiltinMeant {
-        is_there,
-        means: Some(made),
-        serves,
-    })
 }
 
 /// Whether the type is there that a built-in returns, and what its options name.

@@ -6,18 +6,18 @@ ghost use Rattle.link_spec.specs.Definitions.{Exports};
 ghost use Rattle.link_spec.specs.Spaces.{Spaces, Linking};
 ghost use Rattle.link_spec.specs.Computed.{export_outcome};
 ghost use Rattle.link_types.specs.Table.{Grows};
-ghost use Rattle.comp_link.specs.State.{IsAt, IsMade, ended};
-ghost use Rattle.comp_link.specs.Told.{IsTold};
+ghost use Rattle.link_parts.specs.Told.{IsTold};
+ghost use Rattle.link_state.specs.State.{IsAt, IsMade, ended};
 ghost use Rattle.comp_link.specs.Ready.{IsReady, exported};
 
-use crate::asking::wanted_of;
-use crate::link_fault::ItemError;
-use crate::linker::Linker;
 use crate::seen::seen;
 use comp_tree::{Export, ExternDesc};
 use faults::MemoryOr;
 use link_instances::DefinitionRef;
+use link_items::wanted_of;
+use link_parts::ItemError;
 use link_spec::LinkWhy;
+use link_state::Linker;
 use std::alloc::Global;
 
 /// The definition of an export that does not say what it is.

@@ -11,18 +11,19 @@ ghost use Rattle.link_types.specs.Table.{Table, IsName, IsExtern};
 ghost use Rattle.link_instances.specs.References.{World, IsInstance};
 ghost use Rattle.link_instances.specs.Instances.{AreInstances};
 ghost use Rattle.link_meanings.specs.Meant.{IsFoundAs};
-ghost use Rattle.comp_link.specs.State.{world_of, IsAt, IsMade, ended};
-ghost use Rattle.comp_link.specs.Told.{IsTold};
+ghost use Rattle.link_parts.specs.Told.{IsTold};
+ghost use Rattle.link_state.specs.State.{world_of, IsAt, IsMade, ended};
 ghost use Rattle.comp_link.specs.Ready.{IsReady, IsGiven, IsTypesOf, imported};
 
-use crate::asking::wanted_of;
-use crate::link_fault::{ItemError, missing};
-use crate::linker::Linker;
 use crate::seen::seen;
 use comp_tree::{ExternDesc, Import};
 use faults::MemoryOr;
+use link_core_exports::missing;
 use link_instances::{DefinitionRef, InstanceRef, Instances};
+use link_items::wanted_of;
+use link_parts::ItemError;
 use link_spec::LinkWhy;
+use link_state::Linker;
 use link_types::{ExternRef, InstanceTypeRef, Types};
 use std::alloc::Global;
 

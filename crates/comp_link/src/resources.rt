@@ -1,57 +1,27 @@
 //! Resources: types of resources that are defined, and what built-ins of them come to.
 
 ghost use Rattle.std.specs.Prelude.{◌≡◌, ◌<◌, List, Some, IfOk, OnOk, length};
-ghost use Rattle.std.specs.Option.{option_and_then};
-ghost use Rattle.comp_tree.specs.declared.types.DefType.{out-DefType};
 ghost use Rattle.comp_tree.specs.declared.builtins.CanonBuiltin.TheVariants as read_builtin;
 ghost use Rattle.link_spec.specs.Definitions.{Exports};
 ghost use Rattle.link_spec.specs.Spaces.{Spaces, Linking};
-ghost use Rattle.link_spec.specs.Resources.{resource_written};
 ghost use Rattle.link_spec.specs.Builtins.{builtin_meaning};
 ghost use Rattle.link_spec.specs.Computed as computed;
 ghost use Rattle.link_spec.specs.Computed.{resource_outcome};
-ghost use Rattle.link_meanings.specs.References.{resource_ref};
 ghost use Rattle.canon_types.specs.Built.{IsBuiltinMeaning};
-ghost use Rattle.comp_link.specs.State.{IsAt, IsMade, ended};
-ghost use Rattle.comp_link.specs.Told.{IsTold};
+ghost use Rattle.link_parts.specs.Told.{IsTold};
+ghost use Rattle.link_state.specs.State.{IsAt, IsMade, ended};
 
 use crate::builtins::type_is_there;
-use crate::link_fault::ItemError;
-use crate::linker::Linker;
 use builtin_kinds::ResourceOp;
-use canon_types::{BuiltinMeant, destructor_type, resource_builtin};
+use canon_types::{BuiltinMeant, resource_builtin};
 use comp_graph::FuncRef;
-use comp_tree::{CoreSort, DefType};
+use comp_tree::CoreSort;
 use faults::MemoryOr;
-use link_core_exports::CoreItem;
+use link_items::{destructor_of, resource_number};
+use link_parts::ItemError;
 use link_spec::LinkWhy;
-use link_types::TypeRef;
+use link_state::Linker;
 use std::alloc::AllocError;
-
-/// The index of the destructor, if there is one, where a type of resources is written.
-pub fn resource_written(def_type: &DefType) -> Option<Option<u32>>
-    ensures { result ≡ resource_written (out-DefType def_type.now) }
-{
-    match def_type {
-        DefType::Value(_) => None,
-        DefType::Func(_) => None,
-        DefType::Instance(_) => None,
-        DefType::Resource(destructor) => Some(*destructor),
-    }
-}
-
-/// The core function that a core item is, where it can be a destructor.
-fn destructor_of(item: &CoreItem<'_>) -> Result<Option<FuncRef>, ItemError>
-    ensures { IsTold (λ core of_item. core ≡ of_item) result (computed.destructor_of item.now) }
-{
-    if !item.is_of_type(&destructor_type()) {
-        return Err(MemoryOr::Fault(LinkWhy::Canon));
-    }
-    let Some(core) = item.core_func() else {
-        return Err(MemoryOr::Fault(LinkWhy::Canon));
-    };
-    Ok(Some(core))
-}
 
 /// The core function of an index of a component instance, where it can be a destructor.
 fn core_destructor(linker: &Linker<'_>, n: usize, index: u32) -> Result<Option<FuncRef>, ItemError>
@@ -93,16 +63,6 @@ pub fn link_resource(
     let core = destructor_at(&*linker, n, destructor)?;
     linker.add_resource(n, core)?;
     Ok(())
-}
-
-/// The number of a resource, of a type that is found.
-pub(crate) fn resource_number(found: Option<TypeRef>) -> Option<usize>
-    ensures { result ≡ option_and_then resource_ref found }
-{
-    match found? {
-        TypeRef::Resource(number) => Some(number),
-        TypeRef::Value(_) | TypeRef::Func(_) | TypeRef::Instance(_) => None,
-    }
 }
 
 /// What a built-in of a component instance comes to, of the resource of the type of an index. It fails for want of memory alone.

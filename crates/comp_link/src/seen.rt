@@ -11,14 +11,15 @@ ghost use Rattle.link_spec.specs.Computed.{none_missing};
 ghost use Rattle.link_types.specs.Table.{IsName, IsExtern, Grows};
 ghost use Rattle.link_instances.specs.References as references;
 ghost use Rattle.link_meanings.specs.Meant.{IsFoundAs};
-ghost use Rattle.comp_link.specs.State.{world_of, IsState};
-ghost use Rattle.comp_link.specs.Told.{IsTold};
+ghost use Rattle.link_parts.specs.Told.{IsTold};
+ghost use Rattle.link_state.specs.State.{world_of, IsState};
 ghost use Rattle.comp_link.specs.Ready.{as_wanted, IsSeen};
 
-use crate::link_fault::{ItemError, missing};
-use crate::linker::Linker;
 use faults::MemoryOr;
+use link_core_exports::missing;
 use link_instances::{DefinitionRef, Fit, seen_as};
+use link_parts::ItemError;
+use link_state::Linker;
 use link_types::{ExternRef, Types};
 use std::alloc::Global;
 

@@ -1,7 +1,6 @@
 //! Types.
 
-ghost use Rattle.std.specs.Prelude.{◌≡◌, ◌<◌, ◌∷◌, ◌++◌, [], ℕ, List, length, OnOk, IfOk};
-ghost use Rattle.std.specs.List.{AllZip};
+ghost use Rattle.std.specs.Prelude.{◌≡◌, ◌<◌, ◌∷◌, List, length, OnOk, IfOk};
 ghost use Rattle.comp_tree.specs.declared.types.DefType.{out-DefType};
 ghost use Rattle.link_spec.specs.Definitions.{Exports};
 ghost use Rattle.link_spec.specs.Spaces.{Spaces, Linking, levels_at};
@@ -9,68 +8,23 @@ ghost use Rattle.link_spec.specs.Types as types_read;
 ghost use Rattle.link_spec.specs.Resources.{resource_written};
 ghost use Rattle.link_spec.specs.Items.{type_meaning};
 ghost use Rattle.link_spec.specs.Computed.{type_outcome, defined_outcome};
-ghost use Rattle.link_types.specs.Table.{Table, IsType};
-ghost use Rattle.link_instances.specs.References.{World};
+ghost use Rattle.link_types.specs.Table.{IsType};
 ghost use Rattle.link_meanings.specs.Meant.{IsMeaning};
-ghost use Rattle.link_meanings.specs.Levels.{AreLevels};
-ghost use Rattle.comp_link.specs.State.{IsKept, IsAt, IsMade, ended};
-ghost use Rattle.comp_link.specs.Told.{IsTold};
+ghost use Rattle.link_parts.specs.Told.{IsTold};
+ghost use Rattle.link_state.specs.State.{IsAt, IsMade, ended};
 ghost use Rattle.comp_link.specs.Ready.{IsTyped};
 
-use crate::link_fault::{ItemError, missing};
-use crate::linker::{Linker, item_numbered};
-use crate::resources::{link_resource, resource_written};
-use crate::scope::Scope;
+use crate::resources::link_resource;
 use comp_tree::DefType;
 use faults::MemoryOr;
-use link_meanings::{Level, meaning_of};
+use link_core_exports::missing;
+use link_instance_types::meaning_of;
+use link_items::resource_written;
+use link_parts::ItemError;
 use link_spec::LinkWhy;
+use link_state::{Linker, levels_at};
 use link_types::{Meant, TypeRef};
 use std::alloc::{AllocError, Global};
-
-/// What outer aliases see of a component instance.
-fn level_of<'b>(scope: &'b Scope<'_>) -> Level<'b>
-    ensures types { result.types.now ≡ scope.now.types.items }
-    ensures components { result.components.now ≡ scope.now.components.items }
-{
-    Level {
-        types: &scope.types,
-        components: &scope.components,
-    }
-}
-
-/// Puts what outer aliases see of the component instance of a number behind the others, if it has begun. It fails for want of
-/// memory alone, as do the other functions here but the last two.
-fn push_level<'b>(
-    levels: &mut Vec<Level<'b>>,
-    scopes: &'b [Scope<'_>],
-    number: usize,
-) -> Result<(), AllocError>
-    ensures { OnOk result ((t : Table) (w : World) (l : Linking) (numbers : List ℕ) → AllZip (IsKept t w) scopes.now l.scopes → AreLevels t w.components levels.old.items (levels_at l numbers) → AreLevels t w.components levels.new.items (levels_at l (numbers ++ number ∷ []))) }
-{
-    let Some(scope) = item_numbered(scopes, Some(number)) else {
-        return Ok(());
-    };
-    levels.push(level_of(scope))?;
-    Ok(())
-}
-
-/// What outer aliases see of a component instance and of those around it, from the inside out.
-fn levels_at<'b>(
-    alloc: Global,
-    scopes: &'b [Scope<'_>],
-    n: usize,
-    around: &[usize],
-) -> Result<Vec<Level<'b>>, AllocError>
-    ensures { IfOk result (λ levels. (t : Table) (w : World) (l : Linking) → AllZip (IsKept t w) scopes.now l.scopes → AreLevels t w.components levels.items (levels_at l (n ∷ around.now))) }
-{
-    let mut levels = Vec::new(alloc);
-    push_level(&mut levels, scopes, n)?;
-    for number in around {
-        push_level(&mut levels, scopes, *number)?;
-    }
-    Ok(levels)
-}
 
 /// What a type means that stands in a component instance.
 fn meaning_at<'a>(

@@ -1,16 +1,10 @@
 pub mod AskedHere
 pub mod Closing
-pub mod Counting
-pub mod Declares
-pub mod Descriptions
-pub mod Enclosed
-pub mod Exported
-pub mod Folded
+pub mod ExternsMeant
 pub mod Growing
 pub mod Labelled
 pub mod Lists
 pub mod Made
 pub mod MovedRefs
 pub mod MovedSoFar
-pub mod Telling
 pub mod Within

@@ -26,10 +26,3 @@ all_known R [] [] h = tt
 all_known R [] (y ∷ ys) h = absurd h
 all_known R (x ∷ xs) [] h = absurd h
 all_known R (x ∷ xs) (y ∷ ys) h = ((y, refl, h.0), all_known R xs ys h.1)
-
--- A list of images, of which each stands for what the thing stands for.
-pub all_of_images : {A B C : Type 0} (R : B → A → Type 0) (f : C → B) (xs : List C) (ys : List A) → AllZip (λ x y. R (f x) y) xs ys → AllZip R (map f xs) ys
-all_of_images R f [] [] h = tt
-all_of_images R f [] (y ∷ ys) h = absurd h
-all_of_images R f (x ∷ xs) [] h = absurd h
-all_of_images R f (x ∷ xs) (y ∷ ys) h = (h.0, all_of_images R f xs ys h.1)

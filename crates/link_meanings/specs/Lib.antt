@@ -1,4 +1,3 @@
-pub mod Declaring
 pub mod Levels
 pub mod Meant
 pub mod Numbered

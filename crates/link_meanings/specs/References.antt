@@ -1,10 +1,8 @@
--- What references are (Component Model, Explainer.md, "Type Definitions"): values, types and instances among types and exports.
+-- What references are (Component Model, Explainer.md, "Type Definitions"): values and resources among types, and what is imported or
+-- exported of a type.
 use Rattle.std.specs.Prelude.{ℕ, Option, Some, None}
-use Rattle.comp_tree.specs.declared.instances.Sort.{Sort}
-use Rattle.comp_tree.specs.declared.instances.Sort.TheVariants as sorts
 use Rattle.comp_tree.specs.declared.externs.ExternDesc.{ExternDesc}
 use Rattle.comp_tree.specs.declared.externs.ExternDesc.TheVariants as desc
-use Rattle.link_values.specs.declared.refs.InstanceTypeRef.{InstanceTypeRef}
 use Rattle.link_values.specs.declared.refs.TypeRef.{TypeRef}
 use Rattle.link_values.specs.declared.refs.TypeRef.TheVariants as type_ref
 use Rattle.link_values.specs.declared.refs.ExternRef.{ExternRef}
@@ -19,22 +17,6 @@ value_ref ref = None
 abbrev pub resource_ref : TypeRef → Option ℕ
 resource_ref (type_ref.Resource number) = Some number
 resource_ref ref = None
-
--- the type that an export is, and the type of the instance
-abbrev pub type_ref_in : Option ExternRef → Option TypeRef
-type_ref_in (Some (extern_ref.Type ref)) = Some ref
-type_ref_in item = None
-
-abbrev pub instance_ref_in : Option ExternRef → Option InstanceTypeRef
-instance_ref_in (Some (extern_ref.Instance ref)) = Some ref
-instance_ref_in item = None
-
--- an export of a sort
-abbrev pub ref_of_sort : Sort → ExternRef → Option ExternRef
-ref_of_sort sorts.Func (extern_ref.Func ref) = Some (extern_ref.Func ref)
-ref_of_sort sorts.Type (extern_ref.Type ref) = Some (extern_ref.Type ref)
-ref_of_sort sorts.Instance (extern_ref.Instance ref) = Some (extern_ref.Instance ref)
-ref_of_sort sort item = None
 
 -- what an import or an export is to be, where its type is this one
 abbrev pub described_ref : ExternDesc → TypeRef → Option ExternRef

@@ -85,7 +85,7 @@ fn closed_func<'a>(
 }
 
 /// What the type of a function means, over the types of where it stands.
-pub(crate) fn func_meaning<'a>(
+pub fn func_meaning<'a>(
     alloc: Global,
     types: &mut Types<'a>,
     scope: &Enclosing<'_>,

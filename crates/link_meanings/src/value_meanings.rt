@@ -69,7 +69,7 @@ fn capped<'a>(
 }
 
 /// What a written type of values means, over the types of where it stands. Its cost is that of its own layer.
-pub(crate) fn value_meaning<'a>(
+pub fn value_meaning<'a>(
     alloc: Global,
     types: &mut Types<'a>,
     scope: &Enclosing<'_>,

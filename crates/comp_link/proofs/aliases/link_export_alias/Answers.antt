@@ -3,8 +3,8 @@ use Rattle.std.specs.List.{slice_get}
 use Rattle.link_spec.specs.Definitions.{export_named}
 use Rattle.link_spec.specs.Computed.{Outcome}
 use Rattle.link_instances.specs.References.{IsInstance}
-use Rattle.comp_link.specs.State.{world_of}
-use Rattle.comp_link.proofs.Steps.{missing_told, none_found, some_found, none_named, some_named}
+use Rattle.link_state.specs.State.{world_of}
+use Rattle.link_state.proofs.Steps.{missing_told, none_found, some_found, none_named, some_named}
 use Rattle.comp_link.proofs.aliases.link_export_alias.Goals as goal
 
 pub returns-in_default-clause-made : goal.returns-in_default-clause-made

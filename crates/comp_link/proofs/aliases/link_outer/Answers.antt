@@ -1,8 +1,8 @@
 use Rattle.std.proofs.Common.{◌∷◌}
 use Rattle.link_spec.specs.Spaces.{outer_at}
 use Rattle.link_instances.specs.References.{Stands}
-use Rattle.comp_link.specs.State.{world_of}
-use Rattle.comp_link.proofs.Steps.{some_found}
+use Rattle.link_state.specs.State.{world_of}
+use Rattle.link_state.proofs.Steps.{some_found}
 use Rattle.comp_link.proofs.aliases.link_outer.Goals as goal
 
 pub returns-clause-made : goal.returns-clause-made

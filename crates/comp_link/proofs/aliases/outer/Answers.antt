@@ -1,9 +1,9 @@
 use Rattle.std.proofs.Common.{◌≡◌, ◌∷◌, ℕ, List, Option, Some, None, refl, sym, subst, ◌∙◌, Bor}
 use Rattle.std.specs.List.{slice_get}
 use Rattle.link_spec.specs.Spaces.{Spaces}
-use Rattle.comp_link.specs.declared.scope.Scope.{Scope}
-use Rattle.comp_link.specs.State.{world_of, IsKept}
-use Rattle.comp_link.proofs.Steps.{none_found, some_found}
+use Rattle.link_state.specs.declared.scope.Scope.{Scope}
+use Rattle.link_state.specs.State.{world_of, IsKept}
+use Rattle.link_state.proofs.Steps.{none_found, some_found}
 use Rattle.comp_link.proofs.aliases.outer.Goals as goal
 
 -- what stands so many levels out, in the component instances around as they are

@@ -7,7 +7,7 @@ use Rattle.link_spec.specs.Items.{builtin_made}
 use Rattle.link_spec.specs.Computed.{Outcome, Makes, builtin_outcome}
 use Rattle.canon_types.specs.declared.builtins.Built.{Built}
 use Rattle.canon_types.specs.Built.{IsBuilt}
-use Rattle.comp_link.proofs.Told.{reason_is, told_value}
+use Rattle.link_parts.proofs.Told.{reason_is, told_value}
 use Rattle.comp_link.proofs.CanonParts.{not_there, none_such, not_served, is_made}
 use Rattle.comp_link.proofs.builtins.built.Goals as goal
 

@@ -7,7 +7,8 @@ use Rattle.link_spec.specs.Items.{builtin_made}
 use Rattle.link_spec.specs.Computed.{Outcome, Makes, builtin_outcome}
 use Rattle.canon_types.specs.declared.builtins.Built.{Built}
 use Rattle.canon_types.specs.Built.{IsBuilt}
-use Rattle.comp_link.proofs.Told.{made_told, value_told}
+use Rattle.link_parts.proofs.Told.{value_told}
+use Rattle.link_state.proofs.Made.{made_told}
 use Rattle.comp_link.proofs.builtins.link_builtin.Goals as goal
 
 pub returns-in_err-made-clause-made : goal.returns-in_err-made-clause-made

@@ -1,5 +1,5 @@
 use Rattle.std.proofs.Common.{sym}
-use Rattle.comp_link.specs.State.{world_of}
+use Rattle.link_state.specs.State.{world_of}
 use Rattle.comp_link.proofs.builtins.meaning_at.Goals as goal
 
 pub returns-in-Plain-clause-means : goal.returns-in-Plain-clause-means

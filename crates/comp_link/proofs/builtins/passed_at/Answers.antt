@@ -9,8 +9,8 @@ use Rattle.link_spec.specs.ValueTypes.{close_passed}
 use Rattle.link_values.specs.declared.refs.TypeRef.{TypeRef}
 use Rattle.link_types.specs.Table.{IsType}
 use Rattle.link_meanings.specs.Meant.{IsFoundAs}
-use Rattle.comp_link.specs.State.{IsAt}
-use Rattle.comp_link.proofs.States.{at_grows, scope_is}
+use Rattle.link_state.specs.State.{IsAt}
+use Rattle.link_state.proofs.States.{at_grows, scope_is}
 use Rattle.comp_link.proofs.builtins.passed_at.Goals as goal
 
 pub returns-clause-found : goal.returns-clause-found

@@ -11,7 +11,7 @@ use Rattle.link_spec.specs.Builtins.{return_meaning, builtin_meaning}
 use Rattle.link_meanings.specs.Meant.{IsFoundAs}
 use Rattle.canon_types.specs.declared.builtins.BuiltinMeant.{BuiltinMeant}
 use Rattle.canon_types.specs.Built.{IsBuiltinMeaning}
-use Rattle.comp_link.specs.State.{world_of, IsAt}
+use Rattle.link_state.specs.State.{world_of, IsAt}
 use Rattle.comp_link.proofs.builtins.return_at.Goals as goal
 
 pub returns-clause-means : goal.returns-clause-means

@@ -14,9 +14,9 @@ use Rattle.link_instances.specs.References.{World}
 use Rattle.link_meanings.specs.Meant.{IsFoundAs}
 use Rattle.canon_types.specs.declared.builtins.BuiltinMeant.{BuiltinMeant}
 use Rattle.canon_types.specs.Built.{IsBuiltinMeaning}
-use Rattle.comp_link.specs.State.{world_of, IsScope, IsAt}
+use Rattle.link_state.specs.State.{world_of, IsScope, IsAt}
+use Rattle.link_state.proofs.Growth.{kept_whole}
 use Rattle.comp_link.proofs.EndsFound.{number_told}
-use Rattle.comp_link.proofs.Growth.{kept_whole}
 use Rattle.comp_link.proofs.ends.end_at.Goals as goal
 
 pub returns : goal.returns

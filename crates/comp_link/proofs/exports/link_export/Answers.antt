@@ -1,9 +1,9 @@
 use Rattle.std.proofs.Common.{ap, ◌∙◌}
 use Rattle.link_spec.specs.Computed.{export_outcome}
-use Rattle.comp_link.specs.declared.linker.Linker.{Linker}
+use Rattle.link_state.specs.declared.linker.Linker.{Linker}
+use Rattle.link_state.proofs.States.{live_scopes}
 use Rattle.comp_link.specs.Ready.{exported}
-use Rattle.comp_link.proofs.Steps.{linked_by}
-use Rattle.comp_link.proofs.States.{live_scopes}
+use Rattle.comp_link.proofs.Readying.{linked_by}
 use Rattle.comp_link.proofs.exports.link_export.Goals as goal
 
 pub returns-clause-made : goal.returns-clause-made

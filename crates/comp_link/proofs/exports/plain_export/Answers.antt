@@ -4,9 +4,10 @@ use Rattle.link_spec.specs.Spaces.{definition_at}
 use Rattle.link_spec.specs.Computed.{export_outcome}
 use Rattle.link_spec.specs.declared.fault.LinkWhy.TheVariants as why
 use Rattle.link_instances.specs.References.{Stands}
-use Rattle.comp_link.specs.State.{world_of}
+use Rattle.link_state.specs.State.{world_of}
+use Rattle.link_state.proofs.Steps.{none_found, some_found, outcome_err, among_is}
 use Rattle.comp_link.specs.Ready.{exported}
-use Rattle.comp_link.proofs.Steps.{none_found, some_found, outcome_err, outcome_ready, among_is}
+use Rattle.comp_link.proofs.Readying.{outcome_ready}
 use Rattle.comp_link.proofs.Wanting.{export_index, plain_none, plain_among, plain_some}
 use Rattle.comp_link.proofs.exports.plain_export.Goals as goal
 

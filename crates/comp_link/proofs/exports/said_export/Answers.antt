@@ -12,12 +12,13 @@ use Rattle.link_spec.specs.declared.fault.LinkWhy.TheVariants as why
 use Rattle.link_values.specs.declared.refs.TypeRef.{TypeRef}
 use Rattle.link_types.specs.Table.{IsType}
 use Rattle.link_instances.specs.References.{Stands}
-use Rattle.comp_link.specs.State.{world_of}
+use Rattle.link_state.specs.State.{world_of}
+use Rattle.link_state.proofs.Steps.{none_found, some_found, outcome_err, outcome_reason, among_is}
+use Rattle.link_state.proofs.States.{live_scopes}
+use Rattle.link_state.specs.declared.linker.Linker.{Linker}
 use Rattle.comp_link.specs.Ready.{as_wanted, exported}
-use Rattle.comp_link.proofs.Steps.{none_found, some_found, outcome_err, outcome_reason, outcome_ready, among_is}
+use Rattle.comp_link.proofs.Readying.{outcome_ready}
 use Rattle.comp_link.proofs.Wanting.{wants, wants_err, wants_among, wants_none, wants_some, export_index, said_absent, said_none, said_some}
-use Rattle.comp_link.proofs.States.{live_scopes}
-use Rattle.comp_link.specs.declared.linker.Linker.{Linker}
 use Rattle.comp_link.proofs.exports.said_export.Goals as goal
 
 pub returns-then-export-size-clause-made : goal.returns-then-export-size-clause-made

@@ -8,12 +8,13 @@ use Rattle.link_spec.specs.Items.{meant_of, lacking}
 use Rattle.link_spec.specs.Computed.{Outcome, import_outcome}
 use Rattle.link_values.specs.declared.refs.TypeRef.{TypeRef}
 use Rattle.link_types.specs.Table.{IsType}
-use Rattle.comp_link.specs.State.{world_of}
+use Rattle.link_state.specs.State.{world_of}
+use Rattle.link_state.proofs.Steps.{found_as, none_named, some_named, missing_told, outcome_err, outcome_reason, among_is}
+use Rattle.link_state.proofs.States.{live_scopes}
+use Rattle.link_state.specs.declared.linker.Linker.{Linker}
 use Rattle.comp_link.specs.Ready.{as_wanted, imported}
-use Rattle.comp_link.proofs.Steps.{found_as, none_named, some_named, missing_told, outcome_err, outcome_reason, outcome_ready, among_is}
+use Rattle.comp_link.proofs.Readying.{outcome_ready}
 use Rattle.comp_link.proofs.Wanting.{wants, wants_err, wants_among, wants_none, wants_some, given_absent, given_none, given_some}
-use Rattle.comp_link.proofs.States.{live_scopes}
-use Rattle.comp_link.specs.declared.linker.Linker.{Linker}
 use Rattle.comp_link.proofs.imports.given_import.Goals as goal
 
 pub returns-then-not-meant-clause-made : goal.returns-then-not-meant-clause-made

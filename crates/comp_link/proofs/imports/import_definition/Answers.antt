@@ -3,10 +3,10 @@ use Rattle.std.specs.Option.{option_and_then}
 use Rattle.link_spec.specs.Definitions.{Exports, export_named}
 use Rattle.link_spec.specs.Items.{meant_of}
 use Rattle.link_spec.specs.Computed.{import_outcome}
-use Rattle.comp_link.specs.State.{world_of}
-use Rattle.comp_link.specs.Told.{IsTold}
+use Rattle.link_parts.specs.Told.{IsTold}
+use Rattle.link_state.specs.State.{world_of}
+use Rattle.link_state.proofs.Steps.{none_given, some_given}
 use Rattle.comp_link.specs.Ready.{IsReady, imported}
-use Rattle.comp_link.proofs.Steps.{none_given, some_given}
 use Rattle.comp_link.proofs.imports.import_definition.Goals as goal
 
 pub returns-in-None-clause-made : goal.returns-in-None-clause-made

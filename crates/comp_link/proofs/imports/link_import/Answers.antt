@@ -2,11 +2,12 @@ use Rattle.std.proofs.Common.{ap, ◌∙◌}
 use Rattle.std.proofs.lemmas.Result.{err_from_is_err_and}
 use Rattle.link_spec.specs.Items.{wanted}
 use Rattle.link_spec.specs.Computed.{Outcome, import_outcome}
+use Rattle.link_state.specs.State.{IsMade}
+use Rattle.link_state.proofs.Steps.{told_err}
+use Rattle.link_state.specs.declared.linker.Linker.{Linker}
+use Rattle.link_state.proofs.States.{live_scopes}
 use Rattle.comp_link.specs.Ready.{IsReady, imported}
-use Rattle.comp_link.specs.State.{IsMade}
-use Rattle.comp_link.proofs.Steps.{told_err, linked_by}
-use Rattle.comp_link.specs.declared.linker.Linker.{Linker}
-use Rattle.comp_link.proofs.States.{live_scopes}
+use Rattle.comp_link.proofs.Readying.{linked_by}
 use Rattle.comp_link.proofs.imports.link_import.Goals as goal
 
 pub returns-in_err-definition-clause-made : goal.returns-in_err-definition-clause-made

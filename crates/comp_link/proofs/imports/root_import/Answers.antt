@@ -3,8 +3,9 @@ use Rattle.link_spec.specs.Definitions.{AnInstance, types_of}
 use Rattle.link_spec.specs.Items.{meant_of}
 use Rattle.link_spec.specs.Computed.{import_outcome}
 use Rattle.link_instances.specs.declared.references.DefinitionRef.TheVariants as ref
+use Rattle.link_state.proofs.Steps.{told_ok}
 use Rattle.comp_link.specs.Ready.{IsGiven, imported}
-use Rattle.comp_link.proofs.Steps.{told_ok, outcome_ready}
+use Rattle.comp_link.proofs.Readying.{outcome_ready}
 use Rattle.comp_link.proofs.imports.root_import.Goals as goal
 
 pub returns-clause-made : goal.returns-clause-made

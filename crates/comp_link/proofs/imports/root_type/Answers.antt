@@ -5,9 +5,9 @@ use Rattle.link_spec.specs.Items.{meant_of}
 use Rattle.link_spec.specs.Computed.{import_outcome, root_given}
 use Rattle.link_values.specs.declared.refs.TypeRef.{TypeRef}
 use Rattle.link_types.specs.Table.{IsType, IsExtern}
-use Rattle.comp_link.specs.State.{world_of}
+use Rattle.link_state.specs.State.{world_of}
+use Rattle.link_state.proofs.Steps.{none_found, some_found, outcome_err, among_is}
 use Rattle.comp_link.specs.Ready.{imported}
-use Rattle.comp_link.proofs.Steps.{none_found, some_found, outcome_err, among_is}
 use Rattle.comp_link.proofs.Wanting.{root_told, root_refused, root_absent, root_among, root_none, root_some, root_types}
 use Rattle.comp_link.proofs.imports.root_type.Goals as goal
 

@@ -6,11 +6,11 @@ use Rattle.link_spec.specs.Computed.{lifted_to, lifted_of}
 use Rattle.link_values.specs.declared.refs.TypeRef.{TypeRef}
 use Rattle.link_types.specs.Table.{IsType}
 use Rattle.link_instances.specs.References.{IsLifted}
-use Rattle.comp_link.specs.State.{world_of}
-use Rattle.comp_link.specs.Told.{IsTold}
-use Rattle.comp_link.proofs.Told.{reason_is}
-use Rattle.comp_link.proofs.CoreParts.{no_item, no_option, no_type, other_type, of_func_type, of_parts}
-use Rattle.comp_link.proofs.Growth.{kept_whole}
+use Rattle.link_parts.specs.Told.{IsTold}
+use Rattle.link_parts.proofs.Told.{reason_is}
+use Rattle.link_state.specs.State.{world_of}
+use Rattle.link_state.proofs.Growth.{kept_whole}
+use Rattle.comp_link.proofs.LiftParts.{no_item, no_option, no_type, other_type, of_func_type, of_parts}
 use Rattle.comp_link.proofs.lifts.lifted.Goals as goal
 
 pub returns-in_default : goal.returns-in_default

@@ -3,7 +3,8 @@ use Rattle.link_spec.specs.Definitions.{AFunc}
 use Rattle.link_spec.specs.Spaces.{with_definition, with_spaces}
 use Rattle.link_spec.specs.Computed.{lifted_of}
 use Rattle.link_instances.specs.References.{IsLifted}
-use Rattle.comp_link.proofs.Told.{reason_after, made_from, value_told}
+use Rattle.link_parts.proofs.Told.{reason_after, value_told}
+use Rattle.link_state.proofs.Made.{made_from}
 use Rattle.comp_link.proofs.lifts.link_lift.Goals as goal
 
 pub returns-in_err-lifted-clause-made : goal.returns-in_err-lifted-clause-made

@@ -11,15 +11,16 @@ use Rattle.link_spec.specs.Definitions.{Closure}
 use Rattle.link_spec.specs.Spaces.{Linking}
 use Rattle.link_spec.specs.Linked.{begun}
 use Rattle.link_spec.specs.Computed.{item_outcome}
-use Rattle.comp_link.specs.declared.instances.Next.{Next}
-use Rattle.comp_link.specs.declared.instances.Next.TheVariants as next
-use Rattle.comp_link.specs.declared.scope.Scope.{Scope}
-use Rattle.comp_link.specs.State.{ended, StayLive, Stands}
-use Rattle.comp_link.specs.Told.{IsReason, IsTold}
-use Rattle.comp_link.specs.Next.{IsNext}
-use Rattle.comp_link.specs.Running.{inside}
-use Rattle.comp_link.proofs.Passing.{done, as_many, placed_begins, nested_told, nested_refused, goes_on, goes_wrong, goes_last, on_ok}
-use Rattle.comp_link.proofs.States.{live_same, before_live, last_live}
+use Rattle.link_parts.specs.Told.{IsReason, IsTold}
+use Rattle.link_state.specs.declared.instances.Next.{Next}
+use Rattle.link_state.specs.declared.instances.Next.TheVariants as next
+use Rattle.link_state.specs.declared.scope.Scope.{Scope}
+use Rattle.link_state.specs.State.{ended, StayLive, Stands}
+use Rattle.link_state.specs.Next.{IsNext}
+use Rattle.link_state.specs.Running.{inside}
+use Rattle.link_state.proofs.States.{as_many}
+use Rattle.link_state.proofs.States.{live_same, before_live, last_live}
+use Rattle.comp_link.proofs.Passing.{done, placed_begins, nested_told, nested_refused, goes_on, goes_wrong, goes_last, on_ok}
 use Rattle.comp_link.proofs.linking.+items.Goals as goal
 
 pub link_nested-returns-in_err-link_inside-clause-told : goal.link_nested-returns-in_err-link_inside-clause-told

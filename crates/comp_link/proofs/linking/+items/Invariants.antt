@@ -3,8 +3,8 @@
 use Rattle.std.proofs.Common.{◌<◌, ◌≤◌, ◌+◌, ◌*◌, List, length, drop}
 use Rattle.link_spec.specs.Definitions.{Exports}
 use Rattle.link_spec.specs.Spaces.{Linking}
-use Rattle.comp_link.specs.State.{IsLive, StayLive, IsState}
-use Rattle.comp_link.specs.Reached.{IsReached}
+use Rattle.link_state.specs.State.{IsLive, StayLive, IsState}
+use Rattle.link_state.specs.Reached.{IsReached}
 use Rattle.comp_link.proofs.Passing.{Goes}
 use Rattle.comp_link.proofs.linking.+items.Given as goal
 

@@ -6,9 +6,9 @@ use Rattle.comp_tree.specs.declared.items.Item.{Item}
 use Rattle.link_spec.specs.Spaces.{Linking}
 use Rattle.link_spec.specs.Linked.{root_begun}
 use Rattle.link_spec.specs.Computed.{run_within}
-use Rattle.comp_link.specs.State.{Stands}
-use Rattle.comp_link.specs.Told.{IsReason, IsTold}
-use Rattle.comp_link.specs.Reached.{root_begins}
+use Rattle.link_parts.specs.Told.{IsReason, IsTold}
+use Rattle.link_state.specs.State.{Stands}
+use Rattle.link_state.specs.Reached.{root_begins}
 use Rattle.comp_link.proofs.Passing.{done}
 use Rattle.comp_link.proofs.Whole.{refused_told, linked_told, room_told, few_scopes, few_cores, canons_typed}
 use Rattle.comp_link.proofs.linking.link.Goals as goal

@@ -2,7 +2,7 @@ use Rattle.std.proofs.Common.{◌≡◌, subst, rules}
 use Rattle.syntax_trees.specs.declared.module.ModuleTree.{ModuleTree}
 use Rattle.link_spec.specs.Definitions.{AModule}
 use Rattle.link_spec.specs.Spaces.{with_definition, with_spaces}
-use Rattle.comp_link.specs.State.{IsState}
+use Rattle.link_state.specs.State.{IsState}
 use Rattle.comp_link.proofs.linking.link_core_module.Goals as goal
 
 pub returns-clause-made : goal.returns-clause-made

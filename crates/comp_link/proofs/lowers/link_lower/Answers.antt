@@ -4,8 +4,9 @@ use Rattle.std.proofs.lemmas.Result.{err_from_is_err_and}
 use Rattle.link_spec.specs.declared.fault.LinkWhy.{LinkWhy}
 use Rattle.link_spec.specs.Items.{lower_made}
 use Rattle.link_spec.specs.Computed.{Outcome, lower_outcome}
+use Rattle.link_parts.proofs.Told.{value_told}
+use Rattle.link_state.proofs.Made.{made_told}
 use Rattle.comp_link.specs.Ready.{IsLowering}
-use Rattle.comp_link.proofs.Told.{made_told, value_told}
 use Rattle.comp_link.proofs.lowers.link_lower.Goals as goal
 
 pub returns-in_err-lifted-clause-made : goal.returns-in_err-lifted-clause-made

@@ -8,10 +8,10 @@ use Rattle.link_spec.specs.declared.fault.LinkWhy.TheVariants as why
 use Rattle.link_spec.specs.Canons.{Given, given_by, options_of, is_option_there}
 use Rattle.link_spec.specs.Items.{lower_made}
 use Rattle.link_spec.specs.Computed.{Makes, after, lowered_from, lower_outcome}
-use Rattle.comp_link.specs.State.{world_of}
-use Rattle.comp_link.specs.Told.{IsReason, IsTold}
+use Rattle.link_parts.specs.Told.{IsReason, IsTold}
+use Rattle.link_parts.proofs.Told.{reason_is, reason_after, value_told, told_value}
+use Rattle.link_state.specs.State.{world_of}
 use Rattle.comp_link.specs.Ready.{IsLowering}
-use Rattle.comp_link.proofs.Told.{reason_is, reason_after, value_told, told_value}
 use Rattle.comp_link.proofs.CanonParts.{no_func, no_option, of_parts}
 use Rattle.comp_link.proofs.lowers.lowered.Goals as goal
 

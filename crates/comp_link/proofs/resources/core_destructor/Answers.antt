@@ -4,9 +4,9 @@ use Rattle.comp_graph.specs.declared.graph.FuncRef.{FuncRef}
 use Rattle.link_spec.specs.declared.fault.LinkWhy.{LinkWhy}
 use Rattle.link_spec.specs.declared.fault.LinkWhy.TheVariants as why
 use Rattle.link_spec.specs.Computed.{destructor_at}
-use Rattle.comp_link.specs.State.{world_of}
-use Rattle.comp_link.specs.Told.{IsTold}
-use Rattle.comp_link.proofs.Told.{told_why}
+use Rattle.link_parts.specs.Told.{IsTold}
+use Rattle.link_parts.proofs.Told.{told_why}
+use Rattle.link_state.specs.State.{world_of}
 use Rattle.comp_link.proofs.ResourceParts.{no_item, at_item}
 use Rattle.comp_link.proofs.resources.core_destructor.Goals as goal
 

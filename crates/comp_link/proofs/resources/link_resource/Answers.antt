@@ -1,10 +1,11 @@
-use Rattle.std.proofs.Common.{◌≡◌, ◌∙◌, sym, subst, Option}
+use Rattle.std.proofs.Common.{◌≡◌, subst, Option}
 use Rattle.std.proofs.lemmas.Result.{err_from_is_err_and}
 use Rattle.comp_graph.specs.declared.graph.FuncRef.{FuncRef}
 use Rattle.link_spec.specs.Resources.{with_resource}
 use Rattle.link_spec.specs.Computed.{destructor_at}
-use Rattle.comp_link.specs.State.{IsState}
-use Rattle.comp_link.proofs.Told.{reason_after, made_from, value_told}
+use Rattle.link_parts.proofs.Told.{reason_after, value_told}
+use Rattle.link_state.specs.State.{IsState}
+use Rattle.link_state.proofs.Made.{made_from}
 use Rattle.comp_link.proofs.resources.link_resource.Goals as goal
 
 abbrev IsCore : Option FuncRef → Option FuncRef → Type 0

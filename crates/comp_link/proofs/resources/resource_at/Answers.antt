@@ -11,9 +11,9 @@ use Rattle.link_spec.specs.Spaces.{Spaces, Linking}
 use Rattle.link_spec.specs.Builtins.{resource_meaning, builtin_meaning}
 use Rattle.canon_types.specs.declared.builtins.BuiltinMeant.{BuiltinMeant}
 use Rattle.canon_types.specs.Built.{IsBuiltinMeaning}
-use Rattle.comp_link.specs.State.{world_of, IsAt}
-use Rattle.comp_link.proofs.Growth.{kept_whole}
-use Rattle.comp_link.proofs.ResourceParts.{number_told}
+use Rattle.link_items.proofs.ResourceParts.{number_told}
+use Rattle.link_state.specs.State.{world_of, IsAt}
+use Rattle.link_state.proofs.Growth.{kept_whole}
 use Rattle.comp_link.proofs.resources.resource_at.Goals as goal
 
 pub returns : goal.returns

@@ -4,11 +4,11 @@ use Rattle.link_spec.specs.Items.{lacking}
 use Rattle.link_spec.specs.Computed.{none_missing}
 use Rattle.link_types.specs.Table.{IsExtern, Grows}
 use Rattle.link_instances.specs.Fit.{IsFit}
-use Rattle.comp_link.specs.declared.linker.Linker.{Linker}
-use Rattle.comp_link.specs.State.{world_of}
-use Rattle.comp_link.specs.Told.{IsTold}
+use Rattle.link_parts.specs.Told.{IsTold}
+use Rattle.link_state.specs.declared.linker.Linker.{Linker}
+use Rattle.link_state.specs.State.{world_of}
+use Rattle.link_state.proofs.Steps.{some_found}
 use Rattle.comp_link.specs.Ready.{as_wanted, IsSeen}
-use Rattle.comp_link.proofs.Steps.{some_found}
 use Rattle.comp_link.proofs.SeenTold.{fit_of_ok, seen_fits, seen_differs, seen_missing}
 use Rattle.comp_link.proofs.seen.seen.Goals as goal
 

@@ -5,8 +5,9 @@ use Rattle.link_spec.specs.Spaces.{levels_at}
 use Rattle.link_spec.specs.Items.{type_made}
 use Rattle.link_spec.specs.Types.{meaning_of}
 use Rattle.link_spec.specs.Computed.{Outcome, type_outcome}
+use Rattle.link_parts.proofs.Told.{value_told}
+use Rattle.link_state.proofs.Made.{made_told}
 use Rattle.comp_link.specs.Ready.{IsTyped}
-use Rattle.comp_link.proofs.Told.{value_told, made_told}
 use Rattle.comp_link.proofs.types.link_closed.Goals as goal
 
 pub returns-clause-made : goal.returns-clause-made

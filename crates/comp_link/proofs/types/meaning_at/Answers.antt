@@ -11,9 +11,9 @@ use Rattle.link_meanings.specs.declared.levels.Level.{Level}
 use Rattle.link_values.specs.declared.meant.Meant.{Meant}
 use Rattle.link_meanings.specs.Meant.{IsMeaning}
 use Rattle.link_meanings.specs.Levels.{AreLevels}
-use Rattle.comp_link.specs.declared.scope.Scope.{Scope}
-use Rattle.comp_link.specs.State.{world_of, IsKept, IsAt}
-use Rattle.comp_link.proofs.States.{types_grow, scope_is}
+use Rattle.link_state.specs.declared.scope.Scope.{Scope}
+use Rattle.link_state.specs.State.{world_of, IsKept, IsAt}
+use Rattle.link_state.proofs.States.{types_grow, scope_is}
 use Rattle.comp_link.proofs.types.meaning_at.Goals as goal
 
 pub returns-clause-means : goal.returns-clause-means

@@ -7,9 +7,9 @@ use Rattle.link_spec.specs.Types.{meaning_of}
 use Rattle.link_spec.specs.Computed.{Makes, type_outcome}
 use Rattle.link_types.specs.Table.{IsType}
 use Rattle.link_meanings.specs.Meant.{text_of}
+use Rattle.link_parts.proofs.Told.{reason_is, told_value}
+use Rattle.link_state.proofs.Steps.{some_found}
 use Rattle.comp_link.specs.Ready.{IsTyped}
-use Rattle.comp_link.proofs.Told.{reason_is, told_value}
-use Rattle.comp_link.proofs.Steps.{some_found}
 use Rattle.comp_link.proofs.Wanting.{type_told, type_deep}
 use Rattle.comp_link.proofs.types.type_meant.Goals as goal
 

@@ -1,5 +1,0 @@
-use Rattle.comp_link.proofs.States.{scope_is}
-use Rattle.comp_link.proofs.linker.Linker.scope.Goals as goal
-
-pub returns : goal.returns
-returns c bases l s at = scope_is bases c.args.self.now c.args.n l s c.index.result.now c.index.ensures c.requires at

@@ -1,6 +1,0 @@
--- The first number before those that were gone through.
-use Rattle.std.proofs.Common.{◌≡◌, ◌∷◌, take}
-use Rattle.comp_link.proofs.linker.put_before.Given as goal
-
-abbrev pub invariant-loop-number : goal.invariant-loop-number
-invariant-loop-number l = l.numbers ≡ l.fn.first ∷ take l.number-index l.fn.others

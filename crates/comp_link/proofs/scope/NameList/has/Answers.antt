@@ -1,6 +1,0 @@
-use Rattle.std.proofs.Common.{ap, ◌∙◌, ℕ, List}
-use Rattle.syntax_trees.specs.Names.{is_among}
-use Rattle.comp_link.proofs.scope.NameList.has.Goals as goal
-
-pub returns : goal.returns
-returns c = c.contains.ensures ∙ c.self.invariant c.args.name.now ∙ ap (λ (names : List (List ℕ)). is_among c.args.name.now names) c.self.view_is

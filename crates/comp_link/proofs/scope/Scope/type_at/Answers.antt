@@ -1,6 +1,0 @@
-use Rattle.link_types.specs.Table.{IsType}
-use Rattle.comp_link.proofs.Zips.{found_in}
-use Rattle.comp_link.proofs.scope.Scope.type_at.Goals as goal
-
-pub returns : goal.returns
-returns c t w s h = found_in (IsType t) c.args.self.now.types.items c.deref.result.now s.types c.args.index c.copied_at.result h.types c.copied_at.ensures c.deref.ensures.value

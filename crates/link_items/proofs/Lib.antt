@@ -1,0 +1,4 @@
+mod Asked
+mod LiftParts
+mod LowerParts
+pub mod ResourceParts

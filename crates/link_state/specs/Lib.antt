@@ -1,0 +1,4 @@
+pub mod Next
+pub mod Reached
+pub mod Running
+pub mod State
