@@ -1,0 +1,6 @@
+mod Quiet
+mod Order
+mod Resolved
+mod AsTold
+mod Numbers
+mod Holding

@@ -1,0 +1,4 @@
+pub mod QuietCode
+pub mod TaskLines
+pub mod TasksTold
+pub mod Holders

@@ -1,0 +1,9 @@
+mod Telling
+mod Offers
+mod News
+mod Holding
+mod Vain
+mod Deadlocked
+mod Events
+mod Dropping
+mod Staying

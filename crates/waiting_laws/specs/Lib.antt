@@ -1,0 +1,5 @@
+pub mod Offers
+pub mod Missing
+pub mod Deadlocks
+pub mod Telling
+pub mod Events
