@@ -6,3 +6,4 @@ pub mod KnownCalls
 pub mod KnownEnds
 pub mod KnownCopies
 pub mod KnownPlans
+pub mod Fits

@@ -5,7 +5,8 @@
 //! what is asked of a graph, which linking gives, and of a script for it; from this alone `specs/Reached` has that every world which a run reaches is
 //! typed, and that the premises hold in it, and `specs/Going` that either one step comes next there, or the run has ended, so that there is exactly one
 //! run: steps that cost nothing come to an end, whatever the graph and the script. `specs/ReadScripts` has what holds of the arguments in a script that
-//! is read. `specs/Known..` have what else is so of each reached world: of tasks that call tasks, and of ends.
+//! is read. `specs/Known..` have what else is so of each reached world: of tasks that call tasks, and of ends. `specs/Fits` puts together all that laws of
+//! runs of the code ask of a graph and a script.
 //!
 //! - `laws`: the laws
 #![tactic(auto)]

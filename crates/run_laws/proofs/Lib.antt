@@ -65,3 +65,7 @@ pub mod SuppliedWorlds
 pub mod silent
 pub mod well
 pub mod onward
+pub mod Ahead
+mod LostMakes
+mod LostRuns
+mod LostSteps

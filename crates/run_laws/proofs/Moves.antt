@@ -74,20 +74,20 @@ by_rule g values s ahead w (Spent k) a = a
 by_rule g values s ahead w kept.Stuck a = tt
 
 -- What is heard, and what it leaves.
-heard_plain : (g : Graph) (r : kept_receiver.Receiver) (set : ℕ) (h : Held) → PlainBy (heard (seen g) (flow.Delivers r set) h)
+pub heard_plain : (g : Graph) (r : kept_receiver.Receiver) (set : ℕ) (h : Held) → PlainBy (heard (seen g) (flow.Delivers r set) h)
 heard_plain g r set h =
     plain_after (acting h) (λ t k. after (instance_of t k) (λ at l. delivers (seen g) t at r set l))
     (λ t k. plain_after (instance_of t k) (λ at l. delivers (seen g) t at r set l) (λ at l. delivers_plain (seen g) t at r set l))
 
-polled_plain : (g : Graph) (r : kept_receiver.Receiver) (set : ℕ) (h : Held) → PlainBy (heard (seen g) (flow.Polls r set) h)
+pub polled_plain : (g : Graph) (r : kept_receiver.Receiver) (set : ℕ) (h : Held) → PlainBy (heard (seen g) (flow.Polls r set) h)
 polled_plain g r set h =
     plain_after (acting h) (λ t k. after (instance_of t k) (λ at l. polls (seen g) t at r set l))
     (λ t k. plain_after (instance_of t k) (λ at l. polls (seen g) t at r set l) (λ at l. polls_plain (seen g) t at r set l))
 
-none_plain : (g : Graph) (r : kept_receiver.Receiver) (h : Held) → PlainBy (heard (seen g) (flow.HearsNone r) h)
+pub none_plain : (g : Graph) (r : kept_receiver.Receiver) (h : Held) → PlainBy (heard (seen g) (flow.HearsNone r) h)
 none_plain g r h = plain_after (acting h) (λ t k. received_none (seen g) t r k) (λ t k. received_none_plain (seen g) t r k)
 
-cancel_plain : (g : Graph) (r : kept_receiver.Receiver) (h : Held) → PlainBy (heard (seen g) (flow.HearsCancel r) h)
+pub cancel_plain : (g : Graph) (r : kept_receiver.Receiver) (h : Held) → PlainBy (heard (seen g) (flow.HearsCancel r) h)
 cancel_plain g r h = plain_after (acting h) (λ t k. received_cancel (seen g) t r k) (λ t k. received_cancel_plain (seen g) t r k)
 
 heard_same : (g : Graph) (f : Flow) (h k : Held) → (f ≡ flow.Rests → ⊥) → (f ≡ flow.Rests) ⊎ Same h k → FlowsBy k (heard (seen g) f k) → FlowsBy h (heard (seen g) f k)
@@ -119,7 +119,7 @@ heard_stays g (flow.HearsCancel r) h k stays =
     (flows_after k (acting k) (λ t l. received_cancel (seen g) t r l) (acting_stays k) (λ t l. received_cancel_stays (seen g) t r l))
 
 -- A move, as it is put together.
-moved_is : (g : Graph) (types : List (Option ℕ)) (r : Rest) (piles : List PileView) (h : Held) → IsMove r → moves g types r piles h ≡ after (woken g types r h) (λ f k. followed (seen g) f piles k)
+pub moved_is : (g : Graph) (types : List (Option ℕ)) (r : Rest) (piles : List PileView) (h : Held) → IsMove r → moves g types r piles h ≡ after (woken g types r h) (λ f k. followed (seen g) f piles k)
 unfolding moved_on
 moved_is g types (rest.Instantiates number) piles h moves = absurd moves
 moved_is g types rest.Free piles h moves = absurd moves
@@ -148,7 +148,7 @@ module _ (p : Program) (values : List ValType) (s : Script) (h : Held) (piles : 
   abbrev Agreed : Done (Step × List PileView) → Type 0
   Agreed d = RuleAgrees g values s [] w d
 
-  abbrev Heard : List (List Stack) → Done Flow → Type 0
+  abbrev pub Heard : List (List Stack) → Done Flow → Type 0
   Heard now d = (AgreesOn g values s t [] now d (next g s w) × PlainBy d) ⊎ Agrees g values s t [] now d (next g s w)
 
   -- Where an event is to come.
@@ -185,7 +185,7 @@ module _ (p : Program) (values : List ValType) (s : Script) (h : Held) (piles : 
   polls_so receiver.InCallback set k now v lines is x n stands told turn =
       poll_follows g values s (seen g) [] lines now k v t set x.func (next g s w) (comes receiver.InCallback InCallback k now v lines x tt stands told) (news receiver.InCallback set k now v x n stands) turn
 
-  heard_so : (f : Flow) (k : Held) (now : List (List Stack)) → (a : Agrees g values s t [] now (Gives f k) (next g s w)) → HearsBy g k a.world t f → Heard now (heard (seen g) f k)
+  pub heard_so : (f : Flow) (k : Held) (now : List (List Stack)) → (a : Agrees g values s t [] now (Gives f k) (next g s w)) → HearsBy g k a.world t f → Heard now (heard (seen g) f k)
   heard_so (flow.Now words) k now a hears = inr a
   heard_so flow.Rests k now a hears = inr a
   heard_so (flow.Starts ref words) k now a hears = inr a

@@ -279,7 +279,7 @@ module _ (p : Program) (values : List ValType) (s : Script) (h : Held) (piles : 
       rests_plain kept.Stuck is = tt
 
 -- Who acts is as the control says, in each world that is reached.
-ordered_from : (g : Graph) (s : Script) (steps : List (List Label)) (w v : World) → RunsAlone w → IsOrdered w → Reaches g s w steps v → IsOrdered v
+pub ordered_from : (g : Graph) (s : Script) (steps : List (List Label)) (w v : World) → RunsAlone w → IsOrdered w → Reaches g s w steps v → IsOrdered v
 ordered_from g s [] w v alone ordered r = subst IsOrdered (sym r) ordered
 ordered_from g s (labels ∷ steps) w v alone ordered r =
     ordered_from g s steps r.0 v (stays_alone g s w r.0 labels alone r.1) (order_stays g s w r.0 labels alone ordered r.1) r.2

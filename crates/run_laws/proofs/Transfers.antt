@@ -86,20 +86,20 @@ small_is n place is = by (nat_lt n (2 ^ 32)) is
     by true e = sym (some_same e)
     by false e = absurd (let w : ⊥ = cc in w)
 
-place_is : (element : Option ValType) (type : ValType) (copy : OpenCopy) (place : ℕ) → element ≡ Some type → moves.next_place element copy ≡ Some place → place ≡ machine.next_place type copy
+pub place_is : (element : Option ValType) (type : ValType) (copy : OpenCopy) (place : ℕ) → element ≡ Some type → moves.next_place element copy ≡ Some place → place ≡ machine.next_place type copy
 place_is None type copy place some is = absurd (cc)
 place_is (Some other) type copy place some is =
     small_is (copy.place + copy.copied * (laid other).size) place is ∙ ap (λ (t : ValType). copy.place + copy.copied * (laid t).size) (some_same some)
 
 -- A side that is found, or none.
-record SideIs (g : Graph) (element : Option ValType) (copy : OpenCopy) (h : Held) : Type 0 where
-  canon : CanonFunc
-  place : ℕ
-  is : canon_at g copy.canon ≡ Some canon
-  placed : moves.next_place element copy ≡ Some place
-  gives : side_found g element copy h ≡ Gives (side_by copy canon place h) h
+pub record SideIs (g : Graph) (element : Option ValType) (copy : OpenCopy) (h : Held) : Type 0 where
+  pub canon : CanonFunc
+  pub place : ℕ
+  pub is : canon_at g copy.canon ≡ Some canon
+  pub placed : moves.next_place element copy ≡ Some place
+  pub gives : side_found g element copy h ≡ Gives (side_by copy canon place h) h
 
-side_is : (g : Graph) (element : Option ValType) (copy : OpenCopy) (h : Held) → (side_found g element copy h ≡ kept.Stuck) ⊎ SideIs g element copy h
+pub side_is : (g : Graph) (element : Option ValType) (copy : OpenCopy) (h : Held) → (side_found g element copy h ≡ kept.Stuck) ⊎ SideIs g element copy h
 side_is g element copy h = by (canon_at g copy.canon) refl
   where
     placed : (c : CanonFunc) → canon_at g copy.canon ≡ Some c → (o : Option ℕ) → moves.next_place element copy ≡ o → (side_found g element copy h ≡ kept.Stuck) ⊎ SideIs g element copy h

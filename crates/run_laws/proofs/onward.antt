@@ -1,4 +1,6 @@
 pub mod Programs
+pub mod Meets
+pub mod Multiples
 pub mod LedBy
 pub mod Fitting
 pub mod Led
@@ -6,6 +8,7 @@ pub mod Knowing
 pub mod Resting
 pub mod Midst
 pub mod Returned
+pub mod Tested
 pub mod Elements
 pub mod Ran
 pub mod Ended
@@ -15,5 +18,6 @@ pub mod Flowing
 pub mod Moving
 pub mod Behind
 pub mod Whole
+pub mod Counted
 pub mod Dumps
 pub mod Leaving

@@ -16,31 +16,31 @@ use Rattle.world_dumps.specs.Tables as kept
 use Rattle.abi_machine.specs.World.{World}
 use Rattle.abi_machine.specs.Dump as machine
 use Rattle.standing.specs.Stands.{Stands}
-use Rattle.standing.specs.KeptMarks.{HasMarks}
 use Rattle.standing.specs.Channels.{HasMarkedEnds}
-use Rattle.run_laws.specs.Carried.{IsAsked}
+use Rattle.run_laws.specs.Carried.{IsFit}
 use Rattle.run_laws.specs.Whole.{start_of, IsOfMachine, LeavesWorld}
+use Rattle.run_laws.specs.keeping.Kept.{LendsRight}
 
 -- What is left behind a run stands for the world that is left behind the machine's, but where fuel was wanting.
 abbrev pub RunsLeaveWorlds : Type 0
 RunsLeaveWorlds =
-    (p : Program) (end : RunEnd) (lines : List Label) (h : Held) → IsAsked p → IsRun Passes p (start_of p) end lines h
+    (p : Program) (end : RunEnd) (lines : List Label) (h : Held) → IsFit p → IsRun Passes p (start_of p) end lines h
     → LeavesWorld p.graph.now p.types.now p.script.now lines end h
 
--- Of what stands for a world the text is that of the world: it asks that all marks are right beside it, and that ends are marked.
+-- Of what stands for a world the text is that of the world: it asks that marks of handles that are lent are right beside it, and that ends are marked.
 abbrev pub DumpsAgree : Type 0
 DumpsAgree =
-    (g : Graph) (values : List ValType) (s : Script) (h : Held) (stacks : List (List Stack)) (w : World) → Stands g values s h stacks w → HasMarks h → HasMarkedEnds h
+    (g : Graph) (values : List ValType) (s : Script) (h : Held) (stacks : List (List Stack)) (w : World) → Stands g values s h stacks w → LendsRight h → HasMarkedEnds h
     → kept.dump_of h ≡ machine.dump_of w
 
--- So where a run is done, or no task can go on, what it leaves is written down as what the machine's run leaves.
+-- So where a run is done, no task can go on, or a trap comes, what it leaves is written down as what the machine's run leaves.
 abbrev pub EndsFree : RunEnd → Type 0
 EndsFree run.Done = Unit {0}
 EndsFree run.Deadlock = Unit {0}
-EndsFree run.Trap = ⊥
+EndsFree run.Trap = Unit {0}
 EndsFree run.Fuel = ⊥
 
 abbrev pub RunsLeaveDumps : Type 0
 RunsLeaveDumps =
-    (p : Program) (end : RunEnd) (lines : List Label) (h : Held) → IsAsked p → IsRun Passes p (start_of p) end lines h → EndsFree end
+    (p : Program) (end : RunEnd) (lines : List Label) (h : Held) → IsFit p → IsRun Passes p (start_of p) end lines h → EndsFree end
     → (m : IsOfMachine p.graph.now p.script.now lines end) × (kept.dump_of h ≡ machine.dump_of m.last)

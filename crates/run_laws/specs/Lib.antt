@@ -30,3 +30,5 @@ pub mod SuppliedWorlds
 pub mod SuppliedPassings
 pub mod Carried
 pub mod Left
+pub mod Beyond
+pub mod Fronts

@@ -34,7 +34,7 @@ use Rattle.abi_machine.specs.Canons.{canon_at, inst_of_canon, options_at, define
 use Rattle.abi_machine.specs.Passing.{params_type}
 use Rattle.abi_machine.specs.Reading.{entry_at, func_of, runs_in, may_leave}
 use Rattle.abi_machine.specs.sound.Words.{IsPassed}
-pub use Rattle.reach_laws.specs.KnownPlans.{begins, InstancesBegin}
+use Rattle.reach_laws.specs.KnownPlans.{InstancesBegin}
 use Rattle.reach_laws.specs.Runnable.{IsRunnable}
 use Rattle.standing.specs.Agreeing.{control_at}
 use Rattle.standing.specs.Channels.{HasMarkedEnds}

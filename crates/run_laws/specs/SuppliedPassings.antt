@@ -28,6 +28,7 @@ use Rattle.abi_machine.specs.Canons.{options_at}
 use Rattle.abi_machine.specs.Reading.{func_of}
 use Rattle.abi_machine.specs.sound.GraphFuncs.{IsOfGraph}
 use Rattle.abi_machine.specs.sound.Scripts.{IsScriptFor}
+use Rattle.reach_laws.specs.KnownPlans.{InstancesBegin}
 use Rattle.reach_laws.specs.Runnable.{IsRunnable}
 use Rattle.standing.specs.Channels.{HasMarkedEnds}
 use Rattle.standing.specs.KeptMarks.{HasMarks}
@@ -36,7 +37,7 @@ use Rattle.standing.specs.Tasks.{callee_of}
 use Rattle.run_laws.specs.Answering.{HasTypes}
 use Rattle.run_laws.specs.Points.{stacks_at}
 use Rattle.run_laws.specs.Steps.{PassesThere}
-use Rattle.run_laws.specs.Supplied.{InstancesBegin, RestsReached, PassesFor, KeepsMemories, NamesFirst}
+use Rattle.run_laws.specs.Supplied.{RestsReached, PassesFor, KeepsMemories, NamesFirst}
 use Rattle.run_laws.specs.Transfers.{HasTestedPlace}
 use Rattle.run_laws.specs.keeping.Tables.{TablesWell}
 
@@ -74,13 +75,22 @@ ReturnedSupplied =
     → h.rest ≡ rest.Calls number → (later : Held) (now : List (List Stack)) (v : World) → woken p.graph.now p.ends.now h.rest h ≡ Gives flow.Returns later
     → IsBehind p values s later now v → PassesThere p values s (handed later) v passing.Returned
 
--- Elements go over where a read or a write met an offer. Their place at the reader was tested.
+-- Elements go over where a read or a write met an offer, if their place at the reader was tested.
 abbrev pub ElementsSupplied : Type 0
 ElementsSupplied =
     (p : Program) (values : List ValType) (s : Script) (h : Held) (stacks : List (List Stack)) (w : World) (number : ℕ) (copying : Copying) → IsProgramOf p values s
     → RestsReached p values s h stacks w → h.rest ≡ rest.Calls number → (later : Held) (now : List (List Stack)) (v : World)
     → woken p.graph.now p.ends.now h.rest h ≡ Gives (flow.Copies copying) later → ((t : ℕ) → acting_of later ≡ Some t → HasTestedPlace p (handed later) t copying)
     → IsBehind p values s later now v → PassesThere p values s (handed later) v (passing.Elements copying)
+
+-- It was: by the call itself, where that reads, and where it writes as the read was asked whose offer it meets, since the elements of copies stand inside memories in
+-- each world that a run of a graph and a script that fit reaches.
+abbrev pub PlacesSupplied : Type 0
+PlacesSupplied =
+    (p : Program) (values : List ValType) (s : Script) (h : Held) (stacks : List (List Stack)) (w : World) (number : ℕ) (copying : Copying) → IsRunnable p.graph.now s → IsProgramOf p values s
+    → RestsReached p values s h stacks w → h.rest ≡ rest.Calls number → (later : Held) (now : List (List Stack)) (v : World)
+    → woken p.graph.now p.ends.now h.rest h ≡ Gives (flow.Copies copying) later → IsBehind p values s later now v
+    → (t : ℕ) → acting_of later ≡ Some t → HasTestedPlace p (handed later) t copying
 
 -- A stack ran, and the core function or the callback of the acting task has ended with words.
 abbrev pub EndedSupplied : Type 0

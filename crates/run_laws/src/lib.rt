@@ -25,10 +25,13 @@
 //! `specs/Supplied` has what is asked of a move where both are so and the marks are right, `specs/SuppliedWorlds` and `specs/SuppliedEarly` what follows of
 //! reached worlds, `specs/SuppliedMemories` what of graphs that can run, and `specs/SuppliedPassings` what is asked where values are passed. That each step keeps the lists of tasks is in `specs/keeping/Lists`, and that it
 //! keeps memories, and ends where no values are passed, in `specs/keeping/Still`. `specs/Carried` joins all this: what is carried from point to point of a run, so that
-//! the run is the machine's; and `specs/Left` has what it leaves.
+//! the run is the machine's; `specs/Left` has what it leaves, `specs/Fronts` what it has told so far, and
+//! `specs/Beyond` where it may go beyond what is run.
 //!
+//! - `beyond`: where a run goes beyond what is run
 //! - `carried`: what is carried from point to point of a run, and whole runs
 //! - `dispatch`: calls of canonical functions
+//! - `fronts`: what is told of a run so far
 //! - `knowing`: what is asked of a move, from that a run reaches the world
 //! - `lifting`: values that are lifted
 //! - `marking`: what keeps all marks
@@ -39,8 +42,10 @@
 //! - `turns`: turns, where no task runs
 #![tactic(auto)]
 
+mod beyond;
 mod carried;
 mod dispatch;
+mod fronts;
 mod knowing;
 mod lifting;
 mod marking;
@@ -50,11 +55,13 @@ mod stepping;
 mod supplying;
 mod turns;
 
+pub use beyond::steps_are_found;
 pub use carried::{
-    dumps_agree, ends_are_supplied, passings_are_supplied, programs_pass, runs_are_carried,
-    runs_are_of_machine,
+    dumps_agree, ends_are_supplied, passings_are_supplied, places_are_supplied, programs_pass,
+    runs_are_carried, runs_are_of_machine,
 };
 pub use dispatch::{all_answer, calls_agree, canons_alike, marks_last, worlds_supply};
+pub use fronts::so_far_is_of_machine;
 pub use knowing::{early_calls_are_inside, worlds_are_supplied};
 pub use lifting::{indices_agree, liftings_agree};
 pub use marking::{

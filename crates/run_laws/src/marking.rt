@@ -135,9 +135,9 @@ pub fn passings_keep_all_marks()
     ensures { PassingsKeepMarks }
 {}
 
-/// A step as a whole, from any point, keeps all marks, and keeps well what is kept of tasks and of their calls: a turn where no task runs, a move of the acting
-/// task with its stacks, a run of its stack, an action of the graph's plan, and values that are passed, with what follows. It asks what these ask, by where the
-/// run rests, and by what is to be passed.
+/// A step as a whole, from any point, keeps all marks, those of handles that are lent also where it traps, and keeps well what is kept of tasks and of their
+/// calls: a turn where no task runs, a move of the acting task with its stacks, a run of its stack, an action of the graph's plan, and values that are passed,
+/// with what follows. It asks what these ask, by where the run rests, and by what is to be passed.
 pub fn steps_keep_all_marks()
     ensures { StepKeepsAll }
 {}

@@ -1,6 +1,6 @@
 //! What every step keeps beside marks of tasks: memories, ends, what is lent, and the places of waits.
 
-ghost use Rattle.run_laws.specs.keeping.Still.{StepKeepsMemories, FirstKeepsMemories, MemoriesAreFirst, MoveKeepsEnds, FirstKeepsEnds, HandlesAreAloneLent, MoveKeepsLent, PlacesStandKept, TypesTellKinds, EndsStandKept, PassingKeepsEnds, ScriptsPassNone};
+ghost use Rattle.run_laws.specs.keeping.Still.{StepKeepsMemories, FirstKeepsMemories, MemoriesAreFirst, MoveKeepsEnds, FirstKeepsEnds, HandlesAreAloneLent, MoveKeepsLent, PlacesStandKept, TypesTellKinds, EndsStandKept, PassingKeepsEnds, ElementsKeepEnds, ScriptsPassNone};
 
 /// Of each core instance the first memory is kept: it is so before a graph is instantiated, and each step leaves it so, from any point, but for a trap and want of fuel, of
 /// which nothing is said. Then of each core instance what is kept is its first memory.
@@ -10,7 +10,7 @@ pub fn memories_stay()
     ensures kept { MemoriesAreFirst }
 {}
 
-/// Ends are marked, and each stands once, before a graph is instantiated; and each step in which no values are passed leaves them so, but for a trap and want of fuel: it asks that the types of ends that the
+/// Ends are marked, and each stands once, before a graph is instantiated; and each step in which no values are passed leaves them so, but for want of fuel; behind a trap they are marked. It asks that the types of ends that the
 /// program names by the numbers of canonical functions tell which are of streams and which are of futures.
 pub fn moves_keep_ends()
     ensures first { FirstKeepsEnds }
@@ -35,9 +35,15 @@ pub fn ends_are_kept()
     ensures stand { EndsStandKept }
 {}
 
-/// Ends are marked behind a step in which values of a task are passed, arguments or a result: those that leave the table of an instance come to that of another one, readable and
-/// idle. It asks that the calls of the script pass none. Of elements that go over nothing is said.
+/// Ends are marked behind a step in which values of a task are passed, arguments or a result, also where it traps: those that leave the table of an instance come to that of another one, readable and
+/// idle. It asks that the calls of the script pass none.
 pub fn passings_keep_ends()
     ensures script { ScriptsPassNone }
     ensures steps { PassingKeepsEnds }
+{}
+
+/// Ends are marked behind a step in which elements go over, also where it traps. Those that the elements hold come to another table, and that of the call, which is of a deeper type than any of them, stays
+/// at its index, where it is said whether it is idle now. It asks that this end is of the type of the built-in, and that the elements have the type of a number.
+pub fn elements_keep_ends()
+    ensures { ElementsKeepEnds }
 {}

@@ -26,7 +26,7 @@ use Rattle.world_parts.specs.declared.parts.Flow.TheVariants as flow
 use Rattle.world_parts.specs.Held.{Held, Gives, after}
 use Rattle.world_parts.specs.Feed.{told, left_chain}
 use Rattle.world_parts.specs.Entries.{with_instance}
-use Rattle.world_parts.specs.Slots.{with_task, parked}
+use Rattle.world_parts.specs.Slots.{with_task}
 use Rattle.world_parts.specs.Calls.{blocked}
 use Rattle.world_parts.specs.Going.{arrives}
 use Rattle.abi_machine.specs.World.{TaskState, New, WaitsToEnter, Task, World}
@@ -84,9 +84,6 @@ on_wait g values s before h stacks w t x why flag reason state is may far at pla
 abbrev watched_by : Bool → ℕ → Held → Held
 watched_by b t h = record h { watched = parked_by b t h.watched }
 
-parked_is : (t : ℕ) (kind : Kind) (h : Held) → parked t kind h ≡ Gives tt (watched_by (needs_entry kind) t h)
-parked_is t kind h = refl
-
 entered_is : (g : Graph) (w : World) (t : ℕ) (task : Task) (f : Lifted) → Acts w t task f → entered g t task f w ≡ behind [] (enters g t w)
 entered_is g w t task f acts =
     sym (behind_none (enters g t w)
@@ -115,7 +112,7 @@ arrives_by g values s h stacks w t task f k false acts new e may st =
     both_as g values s t h.labels stacks _ _ _ _
     (via _ _ _ _ k.acts ∙ via _ _ _ _ (instance_is t f.instance h k.slot k.is k.at) ∙ via _ _ _ _ (kind_is t h k.slot k.is)
     ∙ via _ _ _ _ (may_enter_is f.instance k.slot.task.kind true h k.inst k.here) ∙ if_false _ _ _ may
-    ∙ via _ _ _ _ (waited_is f.instance h k.inst k.here) ∙ via _ _ _ _ (parked_is t k.slot.task.kind waits))
+    ∙ via _ _ _ _ (waited_is f.instance h k.inst k.here))
     (func_acts w t task f (λ t task f. if may_arrive w f.instance task then entered g t task f w else turns.blocked t WaitsToEnter reason.Entry w) acts ∙ if_false _ _ _ e)
     (on_wait g values s h.labels (watched_by (needs_entry k.slot.task.kind) t waits) stacks w t k.slot blocked_at.Entry false reason.Entry WaitsToEnter k.is
     (ap is_new (k.alike.far ∙ ap (λ state. phase_of (flag_at g) state) new)) refl (sym (k.alike.at ∙ ap errand_of new)) tt acts.first refl waiting)

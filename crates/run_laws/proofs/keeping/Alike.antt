@@ -30,7 +30,7 @@ use Rattle.world_parts.specs.Slots.{with_task, happened}
 use Rattle.standing.specs.KeptMarks.{runs_func, runs_at, lends_by}
 use Rattle.standing.specs.Marks.{StateMarked}
 use Rattle.standing.proofs.States.{states_stay, blocked_stays}
-use Rattle.run_laws.proofs.keeping.Others.{Keeps, KeptBy, keeps_all, keeps_further}
+use Rattle.run_laws.proofs.keeping.Others.{Keeps, KeptBy, keeps_all, keeps_further, TaskTraps, TaskTraps}
 use Rattle.run_laws.proofs.keeping.Changes.{TaskAlike, task_keeps}
 
 runs_same : (x y : TaskSlot) → y.instance ≡ x.instance → y.callee ≡ x.callee → (n : ℕ) → runs_at n y ≡ runs_at n x
@@ -111,27 +111,27 @@ pub kept_alike : (words : List ℕ) (x : TaskSlot) → TaskAlike x (kept_slot wo
 kept_alike words x = changed_alike (λ called. record called { result = words }) (record { by = λ c. refl; lends = λ c. refl; awaited = λ c. refl }) x
 
 -- What happened to a task, where it did.
-acted_by : {A : Type 0} (h l : Held) (t : ℕ) (b : Bool) (o : Option TaskTrap) (x : TaskSlot) (later : TaskView) (c : Unit {0} → Held → Done A)
+acted_by : {A : Type 0} (h l : Held) (t : ℕ) (b : Bool) (o : Option TaskTrap) (x : TaskSlot) (later : TaskView) (c : Unit {0} → Held → Done A) → TaskTraps h l t x o
     → (b ≡ true → o ≡ None → KeptBy h (c tt (with_task t (slots.with_task later x) l)))
     → KeptBy h (after (happened (if b then trapped o else Err event_error.NotNow) t (if b then slots.with_task (unless o later x.task) x else x) l) c)
-acted_by h l t true None x later c p = p refl refl
-acted_by h l t true (Some why) x later c p = tt
-acted_by h l t false o x later c p = tt
+acted_by h l t true None x later c q p = p refl refl
+acted_by h l t true (Some why) x later c q p = q why refl
+acted_by h l t false o x later c q p = tt
 
-pub acted_keeps : {A : Type 0} (h l : Held) (t : ℕ) (e : TaskEvent) (x : TaskSlot) (c : Unit {0} → Held → Done A)
+pub acted_keeps : {A : Type 0} (h l : Held) (t : ℕ) (e : TaskEvent) (x : TaskSlot) (c : Unit {0} → Held → Done A) → TaskTraps h l t x (fault e x.task)
     → (may_happen e x.task ≡ true → fault e x.task ≡ None → KeptBy h (c tt (with_task t (slots.with_task (tasks.after e x.task) x) l)))
     → KeptBy h (after (happened (event_answer e x.task) t (advanced_slot e x) l) c)
-acted_keeps h l t e x c p = acted_by h l t (may_happen e x.task) (fault e x.task) x (tasks.after e x.task) c p
+acted_keeps h l t e x c q p = acted_by h l t (may_happen e x.task) (fault e x.task) x (tasks.after e x.task) c q p
 
-happened_by : (h l : Held) (t : ℕ) (b : Bool) (o : Option TaskTrap) (x : TaskSlot) (later : TaskView) → (b ≡ true → o ≡ None → Keeps h (with_task t (slots.with_task later x) l))
+happened_by : (h l : Held) (t : ℕ) (b : Bool) (o : Option TaskTrap) (x : TaskSlot) (later : TaskView) → TaskTraps h l t x o → (b ≡ true → o ≡ None → Keeps h (with_task t (slots.with_task later x) l))
     → KeptBy h (happened (if b then trapped o else Err event_error.NotNow) t (if b then slots.with_task (unless o later x.task) x else x) l)
-happened_by h l t true None x later p = p refl refl
-happened_by h l t true (Some why) x later p = tt
-happened_by h l t false o x later p = tt
+happened_by h l t true None x later q p = p refl refl
+happened_by h l t true (Some why) x later q p = q why refl
+happened_by h l t false o x later q p = tt
 
-pub happened_keeps : (h l : Held) (t : ℕ) (e : TaskEvent) (x : TaskSlot) → (may_happen e x.task ≡ true → fault e x.task ≡ None → Keeps h (with_task t (slots.with_task (tasks.after e x.task) x) l))
+pub happened_keeps : (h l : Held) (t : ℕ) (e : TaskEvent) (x : TaskSlot) → TaskTraps h l t x (fault e x.task) → (may_happen e x.task ≡ true → fault e x.task ≡ None → Keeps h (with_task t (slots.with_task (tasks.after e x.task) x) l))
     → KeptBy h (happened (event_answer e x.task) t (advanced_slot e x) l)
-happened_keeps h l t e x p = happened_by h l t (may_happen e x.task) (fault e x.task) x (tasks.after e x.task) p
+happened_keeps h l t e x q p = happened_by h l t (may_happen e x.task) (fault e x.task) x (tasks.after e x.task) q p
 
 -- A task that acts waits nowhere.
 pub acting_waits_not : (index : ℕ) (p : Phase) → is_acting p ≡ true → waits_directly_at index p ≡ false

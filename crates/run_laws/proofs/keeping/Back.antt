@@ -29,7 +29,7 @@ use Rattle.standing.proofs.marks.Calls.{back_from_call_stays}
 use Rattle.standing.proofs.marks.Events.{delivered_among_stays, received_none_stays, received_cancel_stays}
 use Rattle.standing.proofs.marks.Stays.{stays_if}
 use Rattle.run_laws.specs.keeping.Kept.{KeepsMarks, TableIsSound, NoneWaitsNext, IsNotAwaited, CalledFrom, SubtasksAreOwn, ToldGaveBack, AskedAreOpen}
-use Rattle.run_laws.proofs.keeping.Others.{KeptBy, keeps_after, keeps_if, keeps_through, look_keeps, full_keeps}
+use Rattle.run_laws.proofs.keeping.Others.{KeptBy, keeps_after, keeps_if, keeps_through, look_keeps, full_keeps, traps_put}
 use Rattle.run_laws.proofs.keeping.Every.{all_by}
 use Rattle.run_laws.proofs.keeping.Changes.{task_keeps, waits_same}
 use Rattle.run_laws.proofs.keeping.Tables.{subtask_added}
@@ -63,6 +63,7 @@ added_keeps t at callee x h is unresolved sound alone new =
     (λ i here.
     full_keeps h (with_instance at i h) (nat_lt (count i.slots) most_live) trap.TableFull
     (Gives (next_of i.slots) (with_instance at (instance.entry_added (entry.Subtask callee) i) h)) (λ index k. after (state_told callee k) (λ state l. got t ((state + 16 * index) ∷ []) l))
+    (traps_put h at i here)
     (λ room.
     let k : Held = with_instance at (instance.entry_added (entry.Subtask callee) i) h in
     keeps_through h k (after (state_told callee k) (λ state l. got t ((state + 16 * next_of i.slots) ∷ []) l))

@@ -13,15 +13,13 @@ use Rattle.task_table.specs.declared.slot.TaskSlot.{TaskSlot}
 use Rattle.world_parts.specs.Held.{Held, Done, Gives, Traps, Spent, Stuck, after, given}
 use Rattle.world_parts.specs.Entries.{with_instance}
 use Rattle.world_parts.specs.Slots.{with_task}
-use Rattle.abi_machine.proofs.sound.Found.{some_same}
 use Rattle.standing.specs.Channels.{EndsMarked, HasMarkedEnds}
 use Rattle.standing.specs.KeptMarks.{GatesMarked, WaitersMarked, LendsMarked, AwaitedMarked, HasMarks, borrows_in, is_task_at, lends_at}
 use Rattle.standing.specs.Marks.{StateMarked, StatesMarked}
 use Rattle.standing.specs.MarksKept.{WaitsStay}
 use Rattle.standing.proofs.marks.Tables.{put_same, put_other, WaitedSame, instance_stays}
 use Rattle.standing.proofs.marks.Tasks.{SeenSame, task_stays}
-use Rattle.run_laws.specs.keeping.Kept.{KeepsMarks}
-use Rattle.run_laws.specs.keeping.Tables.{HandlesAloneLent, TablesWell}
+use Rattle.run_laws.specs.keeping.Tables.{TablesWell}
 use Rattle.run_laws.proofs.keeping.Sums.{set_either}
 use Rattle.run_laws.proofs.keeping.Changes.{TaskAlike, lends_same, waits_same, awaited_alike, states_alike, borrows_of, borrows_change, awaited_table}
 
@@ -66,8 +64,43 @@ GivesSo Q (Traps why k) = Unit {0}
 GivesSo Q (Spent k) = Unit {0}
 GivesSo Q Stuck = Unit {0}
 
+-- Where it traps handles are lent as marked, and ends, where this is asked for, are marked.
+abbrev pub RightAt : Type 0 → Held → Type 0
+RightAt C k = LendsMarked k.instances k.tasks × (C → EndsMarked k.instances k.streams k.futures)
+
+abbrev pub LeavesSo : {A : Type 0} → Type 0 → (Held → Type 0) → Done A → Type 0
+LeavesSo C Q (Gives x k) = Q k
+LeavesSo C Q (Traps why k) = RightAt C k
+LeavesSo C Q (Spent k) = Unit {0}
+LeavesSo C Q Stuck = Unit {0}
+
 abbrev pub GivesBut : {A : Type 0} → Type 0 → ℕ → ℕ → Done A → Type 0
-GivesBut C t n d = GivesSo (λ (k : Held). HasBut C t n k) d
+GivesBut C t n d = LeavesSo C (λ (k : Held). HasBut C t n k) d
+
+-- The same behind a trap too.
+abbrev pub HoldsSo : {A : Type 0} → (Held → Type 0) → Done A → Type 0
+HoldsSo Q (Gives x k) = Q k
+HoldsSo Q (Traps why k) = Q k
+HoldsSo Q (Spent k) = Unit {0}
+HoldsSo Q Stuck = Unit {0}
+
+module _ (Q : Held → Type 0) where
+  pub holds_after : {A B : Type 0} (d : Done A) (f : A → Held → Done B) → HoldsSo Q d → ((x : A) (k : Held) → Q k → HoldsSo Q (f x k)) → HoldsSo Q (after d f)
+  holds_after (Gives x k) f p q = q x k p
+  holds_after (Traps why k) f p q = p
+  holds_after (Spent k) f p q = tt
+  holds_after Stuck f p q = tt
+
+  pub as_holds : {A : Type 0} (d e : Done A) → d ≡ e → HoldsSo Q e → HoldsSo Q d
+  as_holds {A} d e is p = subst (λ (x : Done A). HoldsSo Q x) (sym is) p
+
+  pub holds_given : {A B : Type 0} (o : Option A) (f : A → Done B) → ((x : A) → o ≡ Some x → HoldsSo Q (f x)) → HoldsSo Q (given o f)
+  holds_given None f p = tt
+  holds_given (Some x) f p = p x refl
+
+  pub holds_if : {A : Type 0} (b : Bool) (d e : Done A) → HoldsSo Q d → HoldsSo Q e → HoldsSo Q (if b then d else e)
+  holds_if true d e p q = p
+  holds_if false d e p q = q
 
 -- Behind parts, what follows a look, and both ways of a test.
 module _ (Q : Held → Type 0) where
@@ -92,11 +125,33 @@ module _ (Q : Held → Type 0) where
   so_behind (Spent k) f q = tt
   so_behind Stuck f q = tt
 
-pub so_both : {A : Type 0} (P Q : Held → Type 0) (d : Done A) → GivesSo P d → GivesSo Q d → GivesSo (λ (k : Held). P k × Q k) d
-so_both P Q (Gives x k) p q = (p, q)
-so_both P Q (Traps why k) p q = tt
-so_both P Q (Spent k) p q = tt
-so_both P Q Stuck p q = tt
+module _ (C : Type 0) (Q : Held → Type 0) where
+  pub leaves_after : {A B : Type 0} (d : Done A) (f : A → Held → Done B) → LeavesSo C Q d → ((x : A) (k : Held) → Q k → LeavesSo C Q (f x k)) → LeavesSo C Q (after d f)
+  leaves_after (Gives x k) f p q = q x k p
+  leaves_after (Traps why k) f p q = p
+  leaves_after (Spent k) f p q = tt
+  leaves_after Stuck f p q = tt
+
+  pub leaves_given : {A B : Type 0} (o : Option A) (f : A → Done B) → ((x : A) → o ≡ Some x → LeavesSo C Q (f x)) → LeavesSo C Q (given o f)
+  leaves_given None f p = tt
+  leaves_given (Some x) f p = p x refl
+
+  pub leaves_if : {A : Type 0} (b : Bool) (d e : Done A) → LeavesSo C Q d → LeavesSo C Q e → LeavesSo C Q (if b then d else e)
+  leaves_if true d e p q = p
+  leaves_if false d e p q = q
+
+  -- Behind a part that leaves something else so.
+  pub leaves_over : {A B : Type 0} (P : Held → Type 0) (d : Done A) (f : A → Held → Done B) → LeavesSo C P d → ((x : A) (k : Held) → P k → LeavesSo C Q (f x k)) → LeavesSo C Q (after d f)
+  leaves_over P (Gives x k) f p q = q x k p
+  leaves_over P (Traps why k) f p q = p
+  leaves_over P (Spent k) f p q = tt
+  leaves_over P Stuck f p q = tt
+
+  pub leaves_both : {A : Type 0} (P : Held → Type 0) (d : Done A) → LeavesSo C Q d → GivesSo P d → LeavesSo C (λ (k : Held). Q k × P k) d
+  leaves_both P (Gives x k) p q = (p, q)
+  leaves_both P (Traps why k) p q = p
+  leaves_both P (Spent k) p q = tt
+  leaves_both P Stuck p q = tt
 
 -- What is owed.
 owed_if : (b : Bool) → ◌≡◌ {A = ℕ} (if b then 0 else 0) 0
@@ -137,6 +192,10 @@ but_of C t h marks tables ends = record {
 
 pub lends_of_but : (instances : List InstanceView) (tasks : List TaskSlot) → LentExactly instances tasks → LendsMarked instances tasks
 lends_of_but instances tasks exact at index i x here stood = ap lent_there (sym stood) ∙ exact at index i here
+
+-- So where nothing is asked of what is owed.
+pub right_at : (C : Type 0) (t n : ℕ) (k : Held) → HasBut C t n k → RightAt C k
+right_at C t n k but = (lends_of_but k.instances k.tasks but.lent, but.ends)
 
 pub marks_of : (C : Type 0) (t : ℕ) (h : Held) → HasBut C t 0 h → HasMarks h
 marks_of C t h but = record {

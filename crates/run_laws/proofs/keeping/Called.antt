@@ -87,11 +87,11 @@ if_so h false d e p q = q
 named_every : {A B : Type 0} (h : Held) (r : Result A Refusal) (c : A → Held → Done B) (d : B → Held → Done Flow) → ((x : A) → KeepsMarks h (after (c x h) d))
     → KeepsMarks h (after (after (named r h) c) d)
 named_every h (Ok x) c d p = p x
-named_every h (Err why) c d p = tt
+named_every h (Err why) c d p = λ marks. marks.lends
 
 leaves_every : (g : Graph) (types : List (Option ℕ)) (t number : ℕ) (c : CanonFunc) (words : List ℕ) (h : Held) → (may_leave h ≡ true → KeepsMarks h (canon_answered g types t number c words h))
     → KeepsMarks h (allowed_by g types t number c words None h)
-leaves_every g types t number c words h p = if_so h (may_leave h) (canon_answered g types t number c words h) (Traps trap.CannotLeave h) p tt
+leaves_every g types t number c words h p = if_so h (may_leave h) (canon_answered g types t number c words h) (Traps trap.CannotLeave h) p (λ marks. marks.lends)
 
 by_kind : (g : Graph) (types : List (Option ℕ)) (t number : ℕ) (c : CanonFunc) (words : List ℕ) (h : Held) (at : ℕ) (k : BuiltinKind)
     → (may_leave h ≡ true → KeepsMarks h (canon_answered g types t number c words h))

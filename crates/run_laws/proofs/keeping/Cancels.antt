@@ -31,7 +31,7 @@ use Rattle.standing.proofs.States.{states_stay, blocked_stays}
 use Rattle.standing.proofs.marks.Calls.{back_from_cancel_stays}
 use Rattle.run_laws.specs.keeping.Kept.{KeepsMarks, CalledFrom, ToldGaveBack}
 use Rattle.run_laws.specs.keeping.Cancels.{StandsOnce, CancelsThere, CancelBackKeepsMarks, BackWell, ControlBackKeepsMarks}
-use Rattle.run_laws.proofs.keeping.Others.{Keeps, KeptBy, keeps_after, keeps_if, keeps_through, look_keeps, tested_keeps}
+use Rattle.run_laws.proofs.keeping.Others.{Keeps, KeptBy, keeps_after, keeps_if, keeps_through, look_keeps, tested_keeps, never_traps}
 use Rattle.run_laws.proofs.keeping.Every.{all_by, look_every, at_every}
 use Rattle.run_laws.proofs.keeping.Sums.{set_either, any_there}
 use Rattle.run_laws.proofs.keeping.Changes.{task_keeps, waits_there, waits_not, waits_now, waits_elsewhere, waits_same, awaited_as}
@@ -119,7 +119,7 @@ waits_keeps t at callee canon index flag h runs stands =
     (λ done m. after (told (line.Block t (reason.Cancel index)) m) (λ done n. left_chain n))
     (λ v there.
     let same : v ≡ z = some_same (sym there ∙ get_set k.tasks t y z found) in
-    acted_keeps h l t (event.Block (blocked_at.Cancel index) flag) v (λ done m. after (told (line.Block t (reason.Cancel index)) m) (λ done n. left_chain n))
+    acted_keeps h l t (event.Block (blocked_at.Cancel index) flag) v (λ done m. after (told (line.Block t (reason.Cancel index)) m) (λ done n. left_chain n)) (never_traps h l t v)
     (λ acts none.
     let m : Held = with_task t (at_cancel index flag v) l in
     keeps_through h m (after (told (line.Block t (reason.Cancel index)) m) (λ done n. left_chain n))

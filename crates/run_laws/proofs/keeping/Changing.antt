@@ -33,7 +33,7 @@ use Rattle.run_laws.proofs.keeping.Tables.{removed_alike}
 use Rattle.run_laws.proofs.keeping.But.{lent_there, owed, owed_none, HasBut, TableSame, instance_more, instance_but}
 
 -- At the next index nothing stands.
-next_empty : (entries : List (Option WorldEntry)) (freed : List ℕ) → AreFree entries freed → slot_at entries (next_of (record { entries = entries; freed = freed })) ≡ None
+pub next_empty : (entries : List (Option WorldEntry)) (freed : List ℕ) → AreFree entries freed → slot_at entries (next_of (record { entries = entries; freed = freed })) ≡ None
 next_empty entries [] free = slot_past entries (length entries + 1) (omega arith)
 next_empty entries (index ∷ freed) free = free.0.empty
 

@@ -1,9 +1,9 @@
 -- Borrow handles that a task gets are counted: those that were counted still are counted then.
-use Rattle.std.proofs.Common.{◌≡◌, ◌∙◌, ◌+◌, ℕ, nat_eq, Bool, true, false, if◌then◌else◌, List, [], ◌∷◌, map, slice_set, Option, Some, None, refl, sym, ap, subst, arith, eq-eqb, inl, inr}
+use Rattle.std.proofs.Common.{◌≡◌, ◌∙◌, ◌+◌, ℕ, nat_eq, Bool, true, false, if◌then◌else◌, List, [], ◌∷◌, map, Option, Some, None, refl, sym, ap, subst, arith, eq-eqb, inl, inr}
 use Rattle.std.specs.Prelude.{Err}
 use Rattle.std.specs.List.{slice_get}
-use Rattle.std.proofs.lemmas.Bool.{cases_eq, ne_eqb}
-use Rattle.syntax_trees.specs.declared.value.Value.{Value, fold-Value}
+use Rattle.std.proofs.lemmas.Bool.{ne_eqb}
+use Rattle.syntax_trees.specs.declared.value.Value.{Value}
 use Rattle.syntax_trees.specs.declared.value.Value.TheOpen as V
 use Rattle.syntax_trees.specs.declared.value.Value.TheViews.{roll-Value}
 use Rattle.syntax_trees.specs.declared.value.Value.TheFolds.{map-Value, ind-Value, fold-roll-Value}
@@ -12,21 +12,21 @@ use Rattle.tasks.specs.declared.event.TaskEvent.TheVariants as event
 use Rattle.tasks.specs.declared.event.TaskTrap.{TaskTrap}
 use Rattle.tasks.specs.Tasks as tasks
 use Rattle.tasks.specs.Tasks.{may_happen, fault, unless}
-use Rattle.tasks.specs.Views.{TaskView}
 use Rattle.task_table.specs.declared.refusal.EventError.TheVariants as event_error
 use Rattle.task_table.specs.declared.slot.TaskSlot.{TaskSlot}
 use Rattle.task_table.specs.Slots as slots
 use Rattle.task_table.specs.Slots.{trapped, event_answer, advanced_slot}
 use Rattle.world_parts.specs.Held.{Held, Done, Gives, Traps, Spent, Stuck, after}
 use Rattle.world_parts.specs.Slots.{with_task, happened, happens}
-use Rattle.value_moves.specs.Borrowing.{Act, all_done, borrow_counted, borrow_step, borrows_counted}
-use Rattle.standing.specs.KeptMarks.{is_task_at, borrows_in}
+use Rattle.value_moves.specs.Borrowing.{Act, all_done, borrow_step, borrows_counted}
+use Rattle.standing.specs.KeptMarks.{borrows_in}
 use Rattle.standing.specs.MarksKept.{WaitsStay}
 use Rattle.standing.proofs.marks.Inside.{same_seen}
 use Rattle.standing.proofs.marks.Tasks.{task_stays}
 use Rattle.run_laws.proofs.keeping.Sums.{set_cases}
 use Rattle.run_laws.proofs.keeping.Changes.{lends_same, waits_same, awaited_alike, states_alike}
-use Rattle.run_laws.proofs.keeping.But.{owed, HasBut, GivesBut, so_given}
+use Rattle.run_laws.proofs.keeping.But.{owed, HasBut, GivesBut, task_but, leaves_given, right_at}
+use Rattle.run_laws.proofs.keeping.Alike.{same_task}
 use Rattle.run_laws.proofs.keeping.Planned.{total, borrow_steps, borrow_count}
 
 -- One of them is counted.
@@ -74,12 +74,13 @@ module _ (C : Type 0) (t : ℕ) where
       (happened (if b then trapped o else Err event_error.NotNow) t
       (if b then slots.with_task (unless o (tasks.after event.Borrow x.task) x.task) x else x) h)
   by_test n h x true None is but = one_counted n h x is but
-  by_test n h x true (Some why) is but = tt
+  by_test n h x true (Some why) is but = right_at C t (1 + n) (with_task t (slots.with_task x.task x) h) (task_but C t (1 + n) h t x (slots.with_task x.task x) is (same_task x (slots.with_task x.task x) refl refl refl refl refl)
+      (same_seen x (slots.with_task x.task x) refl refl refl refl) (λ m. m) but)
   by_test n h x false o is but = tt
 
   happens_counted : (n : ℕ) (h : Held) → HasBut C t (1 + n) h → GivesBut C t n (happens t event.Borrow h)
   happens_counted n h but =
-      so_given (λ (k : Held). HasBut C t n k) (slice_get h.tasks t) (λ slot. happened (event_answer event.Borrow slot.task) t (advanced_slot event.Borrow slot) h)
+      leaves_given C (λ (k : Held). HasBut C t n k) (slice_get h.tasks t) (λ slot. happened (event_answer event.Borrow slot.task) t (advanced_slot event.Borrow slot) h)
       (λ x is. by_test n h x (may_happen event.Borrow x.task) (fault event.Borrow x.task) is but)
 
 -- All of a value are.
@@ -105,7 +106,7 @@ module _ (C : Type 0) (home : List ℕ) (t : ℕ) where
   then_counted : (d : Done (Unit {0})) (f : Held → Done (Unit {0})) (m n : ℕ) → GivesBut C t m d → ((k : Held) → HasBut C t m k → GivesBut C t n (f k))
       → GivesBut C t n (after d (λ done k. f k))
   then_counted (Gives x k) f m n p q = q k p
-  then_counted (Traps why k) f m n p q = tt
+  then_counted (Traps why k) f m n p q = p
   then_counted (Spent k) f m n p q = tt
   then_counted Stuck f m n p q = tt
 

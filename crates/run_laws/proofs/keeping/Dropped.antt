@@ -18,7 +18,7 @@ use Rattle.world_parts.specs.Entries.{with_instance}
 use Rattle.world_parts.specs.Slots.{with_task, happened, happens}
 use Rattle.standing.specs.KeptMarks.{borrows_by, is_borrow_of, borrows_in, BorrowsMarked}
 use Rattle.standing.proofs.States.{states_stay}
-use Rattle.run_laws.proofs.keeping.Others.{Keeps, KeptBy, keeps_given}
+use Rattle.run_laws.proofs.keeping.Others.{Keeps, KeptBy, keeps_given, never_traps}
 use Rattle.run_laws.proofs.keeping.Sums.{set_cases}
 use Rattle.run_laws.proofs.keeping.Changes.{borrows_of, borrows_change, lends_alike, lends_table, awaited_alike, awaited_table, states_alike, waits_same}
 use Rattle.run_laws.proofs.keeping.Tables.{borrow_gone, entry_gone, slot_gone}
@@ -77,7 +77,7 @@ unfolding unborrowed
 unborrow_keeps h at index task i z is stood by =
     let k : Held = with_instance at (instance.entry_removed index i) h in
     keeps_given h (slice_get h.tasks task) (λ slot. happened (event_answer event.Unborrow slot.task) task (advanced_slot event.Unborrow slot) k)
-    (λ x there. happened_keeps h k task event.Unborrow x (λ may none. borrow_dropped h at index task i z x is stood by there))
+    (λ x there. happened_keeps h k task event.Unborrow x (never_traps h k task x) (λ may none. borrow_dropped h at index task i z x is stood by there))
 
 pub own_dropped : (h : Held) (at index : ℕ) (i : InstanceView) (z : Handle) → slice_get h.instances at ≡ Some i → entry_of i index ≡ Some (entry.Handle z) → z.ownership ≡ Own
     → Keeps h (with_instance at (instance.entry_removed index i) h)

@@ -9,9 +9,9 @@ use Rattle.trace_labels.specs.declared.trap.TrapName.{TrapName}
 use Rattle.world_parts.specs.Held.{Held, Done, Gives, Traps, Spent, Stuck, after, given}
 use Rattle.world_parts.specs.Entries.{named}
 use Rattle.abi_machine.proofs.sound.Found.{some_same}
-use Rattle.standing.specs.KeptMarks.{TasksMarked}
+use Rattle.standing.specs.KeptMarks.{TasksMarked, HasMarks}
 use Rattle.standing.specs.MarksKept.{WaitsStay, StayBy}
-use Rattle.run_laws.specs.keeping.Kept.{MarksStay, KeepsMarks}
+use Rattle.run_laws.specs.keeping.Kept.{MarksStay, KeepsMarks, LendsRight}
 use Rattle.run_laws.proofs.keeping.Others.{OthersMarked, Keeps, KeptBy}
 
 pub all_marks : (h k : Held) → WaitsStay h k → Keeps h k → MarksStay h k
@@ -28,7 +28,7 @@ all_marks h k p q marks =
 
 pub all_by : {A : Type 0} (h : Held) (d : Done A) → StayBy h d → KeptBy h d → KeepsMarks h d
 all_by h (Gives x k) p q = all_marks h k p q
-all_by h (Traps why k) p q = tt
+all_by h (Traps why k) p q = λ marks. q (record { lends = marks.lends; borrows = marks.borrows; awaited = marks.awaited; states = marks.states })
 all_by h (Spent k) p q = tt
 all_by h Stuck p q = tt
 
@@ -44,13 +44,13 @@ every_further h k l p q marks = q (p marks)
 
 pub every_through : {A : Type 0} (h k : Held) (d : Done A) → MarksStay h k → KeepsMarks k d → KeepsMarks h d
 every_through h k (Gives x l) p q = every_further h k l p q
-every_through h k (Traps why l) p q = tt
+every_through h k (Traps why l) p q = λ marks. q (p marks)
 every_through h k (Spent l) p q = tt
 every_through h k Stuck p q = tt
 
 pub every_after : {A B : Type 0} (h : Held) (d : Done A) (f : A → Held → Done B) → KeepsMarks h d → ((x : A) (k : Held) → KeepsMarks k (f x k)) → KeepsMarks h (after d f)
 every_after h (Gives x k) f p q = every_through h k (f x k) p (q x k)
-every_after h (Traps why k) f p q = tt
+every_after h (Traps why k) f p q = p
 every_after h (Spent k) f p q = tt
 every_after h Stuck f p q = tt
 
@@ -72,7 +72,7 @@ look_every h (Some x) f c p = p x refl
 
 pub found_every : {A B : Type 0} (h : Held) (r : Result A Refusal) (c : A → Held → Done B) → ((x : A) → r ≡ Ok x → KeepsMarks h (c x h)) → KeepsMarks h (after (named r h) c)
 found_every h (Ok x) c p = p x refl
-found_every h (Err why) c p = tt
+found_every h (Err why) c p = λ marks. marks.lends
 
 -- The same behind two parts, and behind a test.
 pub further_every : {A B C D : Type 0} (h : Held) (o : Option A) (f : A → Done B) (c : B → Held → Done C) (d : C → Held → Done D)
@@ -84,13 +84,13 @@ pub tested_every : {A B : Type 0} (h : Held) (b : Bool) (d : Done A) (c : A → 
 tested_every h true d c p = p refl
 tested_every h false d c p = tt
 
-pub trapped_every : {A B : Type 0} (h k : Held) (b : Bool) (why : TrapName) (d : Done A) (c : A → Held → Done B) → KeepsMarks h (after d c) → KeepsMarks h (after (if b then d else Traps why k) c)
-trapped_every h k true why d c p = p
-trapped_every h k false why d c p = tt
+pub trapped_every : {A B : Type 0} (h k : Held) (b : Bool) (why : TrapName) (d : Done A) (c : A → Held → Done B) → (HasMarks h → LendsRight k) → KeepsMarks h (after d c) → KeepsMarks h (after (if b then d else Traps why k) c)
+trapped_every h k true why d c q p = p
+trapped_every h k false why d c q p = q
 
-pub full_every : {A B : Type 0} (h k : Held) (b : Bool) (why : TrapName) (d : Done A) (c : A → Held → Done B) → (b ≡ true → KeepsMarks h (after d c)) → KeepsMarks h (after (if b then d else Traps why k) c)
-full_every h k true why d c p = p refl
-full_every h k false why d c p = tt
+pub full_every : {A B : Type 0} (h k : Held) (b : Bool) (why : TrapName) (d : Done A) (c : A → Held → Done B) → (HasMarks h → LendsRight k) → (b ≡ true → KeepsMarks h (after d c)) → KeepsMarks h (after (if b then d else Traps why k) c)
+full_every h k true why d c q p = p refl
+full_every h k false why d c q p = q
 
 -- What is found was found before.
 pub at_every : {A B C : Type 0} (h : Held) (o : Option A) (x : A) (f : A → Done B) (c : B → Held → Done C) → o ≡ Some x → KeepsMarks h (after (f x) c) → KeepsMarks h (after (given o f) c)

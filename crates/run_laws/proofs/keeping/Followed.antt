@@ -112,6 +112,6 @@ pub behind_flow : {B : Type 0} (h : Held) (d : Done Flow) (c : Flow → Held →
 behind_flow {B} h (Gives f k) c keeps well own hears p =
     let q : KeepsAll k (c f k) = p f k (keeps.1 well) (hears_from h k f own hears) in
     (every_through h k (c f k) keeps.0 q.0, well_behind h k (c f k) keeps.1 q.1)
-behind_flow h (Traps why k) c keeps well own hears p = (tt, tt)
+behind_flow h (Traps why k) c keeps well own hears p = keeps
 behind_flow h (Spent k) c keeps well own hears p = (tt, tt)
 behind_flow h Stuck c keeps well own hears p = (tt, tt)

@@ -116,7 +116,7 @@ arrived_late h t x i is here runs =
     at_every h (slice_get h.tasks t) x
     (λ z. happened (event_answer (event.Block blocked_at.Entry false) z.task) t (advanced_slot (event.Block blocked_at.Entry false) z) l)
     (λ done m. after (told (line.Block t reason.Entry) m) (λ done n. left_chain n)) is
-    (acted_every h l t (event.Block blocked_at.Entry false) x (λ done m. after (told (line.Block t reason.Entry) m) (λ done n. left_chain n))
+    (acted_every h l t (event.Block blocked_at.Entry false) x (λ done m. after (told (line.Block t reason.Entry) m) (λ done n. left_chain n)) refl
     (λ new none.
     let m : Held = with_task t (slots.with_task (tasks.after (event.Block blocked_at.Entry false) x.task) x) l in
     every_through h m (after (told (line.Block t reason.Entry) m) (λ done n. left_chain n)) (waits_outside h m t x i is here runs new refl refl) (told_and_left (line.Block t reason.Entry) m)))))
@@ -242,7 +242,7 @@ behind_wait h n t x i i1 waited is here runs e free same_tasks there put gate_is
     (let o : Held = with_instance x.instance (with_gate (entered t x.task.kind i1.gate) i1) n in
     at_every h (slice_get n.tasks t) x (λ z. happened (event_answer event.Enter z.task) t (advanced_slot event.Enter z) o)
     (λ done p. after (raised t state.Started p) (λ done q. told (line.Enter t) q)) (ap (λ (ts : List TaskSlot). slice_get ts t) same_tasks ∙ is)
-    (acted_every h o t event.Enter x (λ done p. after (raised t state.Started p) (λ done q. told (line.Enter t) q))
+    (acted_every h o t event.Enter x (λ done p. after (raised t state.Started p) (λ done q. told (line.Enter t) q)) refl
     (λ may none.
     let y : TaskSlot = slots.with_task (tasks.after event.Enter x.task) x in
     let p : Held = with_task t y o in
@@ -371,7 +371,7 @@ leaves_marks h runs one =
     (λ x is.
     at_every h (slice_get h.tasks t) x (λ z. happened (event_answer event.Exit z.task) t (advanced_slot event.Exit z) h)
     (λ done m. after (gate_given_up x.instance t m) (λ done n. after (closed t n) (λ done o. after (told (line.Exit t) o) (λ done p. left_chain p)))) is
-    (acted_every h h t event.Exit x (λ done m. after (gate_given_up x.instance t m) (λ done n. after (closed t n) (λ done o. after (told (line.Exit t) o) (λ done p. left_chain p))))
+    (acted_every h h t event.Exit x (λ done m. after (gate_given_up x.instance t m) (λ done n. after (closed t n) (λ done o. after (told (line.Exit t) o) (λ done p. left_chain p)))) refl
     (λ may none.
     let m : Held = with_task t (slots.with_task (tasks.after event.Exit x.task) x) h in
     look_every h (slice_get h.instances x.instance) (λ i. Gives tt (with_instance x.instance (with_gate (given_up t i.gate) i) m))

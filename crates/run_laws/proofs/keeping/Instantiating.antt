@@ -25,7 +25,7 @@ use Rattle.world_stacks.specs.Views.{PileView}
 use Rattle.world_stacks.specs.Piles.{stacked, at_pile}
 use Rattle.world_stacks.specs.Addresses.{externals}
 use Rattle.world_stacks.specs.Starting.{started}
-use Rattle.world_stacks.specs.Instantiating.{init_exits, memory_kept, core_made, core_added, started_by, start_of, started_up, made, acted, instantiates}
+use Rattle.world_stacks.specs.Instantiating.{init_exits, memory_kept, core_made, core_added, started_by, start_of, started_up, made, acted}
 use Rattle.standing.proofs.marks.Feed.{left_chain_stays}
 use Rattle.standing.proofs.marks.Slots.{errand_set_stays}
 use Rattle.run_laws.specs.keeping.Kept.{KeepsMarks}
@@ -50,7 +50,7 @@ init_exits_marks h none =
     look_every h (slice_get h.tasks 0) (λ x. happened (event_answer event.Exit x.task) 0 (advanced_slot event.Exit x) h)
     (λ done k. after (closed 0 k) (λ done l. after (left_chain l) (λ flow m. Gives (tt {0}) (at_rest rest.Free m))))
     (λ x is.
-    acted_every h h 0 event.Exit x (λ done k. after (closed 0 k) (λ done l. after (left_chain l) (λ flow m. Gives (tt {0}) (at_rest rest.Free m))))
+    acted_every h h 0 event.Exit x (λ done k. after (closed 0 k) (λ done l. after (left_chain l) (λ flow m. Gives (tt {0}) (at_rest rest.Free m)))) refl
     (λ may fine.
     let k : Held = with_task 0 (slots.with_task (tasks.after event.Exit x.task) x) h in
     let l : Held = record k { live = without 0 k.live; watched = unwatched 0 k.watched } in
@@ -74,7 +74,7 @@ memory_kept_marks number h =
     (λ i is. every_all h (record h { memories = h.memories ++ slice_get i.memories 0 ∷ [] }) refl refl)
 
 core_made_marks : (made : Instantiation) (h : Held) → KeepsMarks h (core_made made h)
-core_made_marks (core.SegmentBounds s) h = tt
+core_made_marks (core.SegmentBounds s) h = λ marks. marks.lends
 core_made_marks (core.Makes s) h =
     every_from h (record h { store = s }) (after (memory_kept (length h.store.instances) (record h { store = s })) (λ done k. Gives (length h.store.instances) k)) refl refl
     (every_after (record h { store = s }) (memory_kept (length h.store.instances) (record h { store = s })) (λ done k. Gives (length h.store.instances) k)

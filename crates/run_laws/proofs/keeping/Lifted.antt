@@ -1,11 +1,11 @@
 -- Values that are lifted from the table of an instance: handles and ends that leave it, and handles that are lent for the call of a task, keep what is kept.
 use Rattle.std.proofs.Common.{◌≡◌, ◌⊎◌, inl, inr, ℕ, ◌+◌, nat_eq, Bool, true, false, if◌then◌else◌, List, [], ◌∷◌, ◌++◌, slice_set, refl, sym, ap, ◌∙◌, subst, Option, Some, None}
-use Rattle.std.specs.Prelude.{Result, Ok, Err, IsSome}
+use Rattle.std.specs.Prelude.{Result, Ok, Err}
 use Rattle.std.specs.List.{slice_get}
 use Rattle.std.specs.Option.{option_map}
 use Rattle.std.proofs.lemmas.Bool.Decides.{Decides-eqb}
 use Rattle.syntax_trees.specs.declared.types.ValType.{ValType}
-use Rattle.handle_table.specs.Slots.{Slots, entry_at, removed}
+use Rattle.handle_table.specs.Slots.{entry_at, removed}
 use Rattle.res_handles.specs.declared.handle.Handle.{Handle}
 use Rattle.res_handles.specs.declared.handle.Ownership.{Ownership}
 use Rattle.res_handles.specs.declared.handle.Ownership.TheVariants.{Own, Borrow}
@@ -19,7 +19,6 @@ use Rattle.res_handles.specs.Calls as handles
 use Rattle.waitables.specs.Sets.{left}
 use Rattle.stream_ends.specs.declared.side.Side.{Side}
 use Rattle.stream_ends.specs.declared.side.Side.TheVariants.{Reader, Writer}
-use Rattle.value_lift.specs.declared.moved.Moved.{Moved}
 use Rattle.value_lift.specs.declared.moved.Moved.TheVariants.{Lent, Taken}
 use Rattle.value_lift.specs.Ledger.{Use, What, AnOwn, ABorrow, AnEnd, Came, counting}
 use Rattle.value_lift.specs.Settled.{Listed, applied, applied_by, uses_in}
@@ -40,7 +39,7 @@ use Rattle.task_table.specs.declared.caller.Caller.TheVariants.{Nobody, Host, Gu
 use Rattle.task_table.specs.declared.slot.TaskSlot.{TaskSlot}
 use Rattle.task_table.specs.Callers.{called_of, changed, with_lend}
 use Rattle.trace_labels.specs.declared.label.Label.TheVariants as line
-use Rattle.world_parts.specs.Held.{Held, Done, Gives, Traps, Spent, Stuck, after}
+use Rattle.world_parts.specs.Held.{Held, Done, Gives, Traps, Stuck, after}
 use Rattle.world_parts.specs.Entries.{with_instance}
 use Rattle.world_parts.specs.Slots.{with_task}
 use Rattle.value_parts.specs.declared.lifting.Origin.{Origin}
@@ -48,13 +47,13 @@ use Rattle.value_parts.specs.Loans.{may_lend, lent_slot, all_moved}
 use Rattle.value_parts.specs.Names.{lift_name}
 use Rattle.value_parts.specs.Lifting.{settled}
 use Rattle.abi_machine.proofs.sound.Found.{some_same, ok_same}
-use Rattle.standing.specs.KeptMarks.{is_task_at, borrows_by, is_borrow_of}
+use Rattle.standing.specs.KeptMarks.{borrows_by}
 use Rattle.standing.proofs.Agreeing.{get_set}
 use Rattle.standing.proofs.Lists.{set_same}
 use Rattle.run_laws.specs.keeping.Kept.{CalledFrom}
-use Rattle.run_laws.proofs.Moved.{set_is_change, get_changed, slotted, slotted_is, over, moved_over, moved_to, moved_stuck, lent_to, not_lent, taken_to}
+use Rattle.run_laws.proofs.Moved.{slotted, slotted_is, over, moved_over, moved_to, moved_stuck, lent_to, not_lent, taken_to}
 use Rattle.run_laws.proofs.keeping.Alike.{guest_same, set_twice}
-use Rattle.run_laws.proofs.keeping.But.{lent_there, HasBut, GivesSo, but_as, so_behind}
+use Rattle.run_laws.proofs.keeping.But.{HasBut, LeavesSo, but_as, right_at}
 use Rattle.run_laws.proofs.keeping.Prior.{Prior, prior_all, prior_task, prior_further}
 use Rattle.run_laws.proofs.keeping.Changing.{entry_leaves, set_leaves}
 use Rattle.run_laws.proofs.keeping.Lent.{lent_as, handle_lent, from_lent}
@@ -252,23 +251,28 @@ module _ (C : Type 0) (t n : ℕ) (B : Type 0) (h : Held) (at callee : ℕ) wher
   -- One use, by what is found.
   abbrev Took : Result (ℕ × Kept WorldEntry) (Stop WorldEntry) → Type 0
   Took (Ok x) = MayGo x.1
-  Took (Err stop) = Unit {0}
+  Took (Err stop) = MayGo (record { left = 0; slots = stop.slots; moved = stop.moved })
+
+  -- Where it stops so it is of the table as it is then.
+  at_stop : (k : Kept WorldEntry) (left : ℕ) → MayGo k → MayGo (record { left = left; slots = k.slots; moved = k.moved })
+  at_stop k left (inr stuck) = inr stuck
+  at_stop k left (inl g) = inl (record { base = g.base; inst = g.inst; moved = g.moved; there = g.there; but = g.but; prior = g.prior; from = g.from })
 
   own_took : (u : Use) (resource : ℕ) (k : Kept WorldEntry) (r : Result Handle Refusal) → own_in (handles.view_at seen_as k.slots u.index) resource ≡ r → MayGo k → Took (taken_own r u k)
   own_took u resource k (Ok x) is g =
       own_leaves k k.left u.index x (own_found (handles.view_at seen_as k.slots u.index) resource x is) (own_unlent (handles.view_at seen_as k.slots u.index) resource x is) g
-  own_took u resource k (Err why) is g = tt
+  own_took u resource k (Err why) is g = at_stop k 0 g
 
   borrow_took : (u : Use) (resource : ℕ) (k : Kept WorldEntry) (r : Result Handle Refusal) → handle_in (handles.view_at seen_as k.slots u.index) resource ≡ r → B → MayGo k
       → Took (taken_borrow seen_as of_handle r u k)
   borrow_took u resource k (Ok x) is used g = handle_goes k k.left u.index x (handle_found (handles.view_at seen_as k.slots u.index) resource x is) used g
-  borrow_took u resource k (Err why) is used g = tt
+  borrow_took u resource k (Err why) is used g = at_stop k 0 g
 
   end_took : (u : Use) (of : Bool) (k : Kept WorldEntry) (r : Result ℕ Refusal) → end_in (handles.view_at seen_as k.slots u.index) of ≡ r → MayGo k → Took (taken_end r u k)
   end_took u of k (Ok number) is g =
       let f : EndFound (handles.view_at seen_as k.slots u.index) number = end_found (handles.view_at seen_as k.slots u.index) of number is in
       end_goes k k.left u.index f.found.number f.found.is_idle f.is g
-  end_took u of k (Err why) is g = tt
+  end_took u of k (Err why) is g = at_stop k 0 g
 
   module _ (types : List ValType) where
     took : (w : What) (u : Use) (k : Kept WorldEntry) → (Borrows w → B) → MayGo k → Took (taken_as seen_as of_handle end_type_of types w u k)
@@ -280,12 +284,12 @@ module _ (C : Type 0) (t n : ℕ) (B : Type 0) (h : Held) (at callee : ℕ) wher
     -- Uses, one after the other.
     abbrev AllTook : Result (Kept WorldEntry) (Stop WorldEntry) → Type 0
     AllTook (Ok k) = MayGo k
-    AllTook (Err stop) = Unit {0}
+    AllTook (Err stop) = MayGo (record { left = 0; slots = stop.slots; moved = stop.moved })
 
     more_took : (r : Result (ℕ × Kept WorldEntry) (Stop WorldEntry)) (f : Kept WorldEntry → Result (Kept WorldEntry) (Stop WorldEntry)) → Took r
         → ((k : Kept WorldEntry) → MayGo k → AllTook (f k)) → AllTook (applied_by r f)
     more_took (Ok x) f g more = more x.1 g
-    more_took (Err stop) f g more = tt
+    more_took (Err stop) f g more = g
 
     pub uses_took : (uses : List Use) (k : Kept WorldEntry) → LendOnly B uses → MayGo k → AllTook (applied seen_as of_handle end_type_of types uses k)
     uses_took [] k used g = g
@@ -303,44 +307,58 @@ Comes A = Came (Kept WorldEntry) (Stop WorldEntry) A
 module _ (A : Type 0) (C : Type 0) (t n : ℕ) (B : Type 0) (h : Held) (from : Origin) (i : InstanceView) (there : slice_get h.instances from.at ≡ Some i) (types : List ValType) where
   -- What moved is done over what is kept with the slots.
   given_so : (k : Kept WorldEntry) (v : A) → MayGo C t n B h from.at from.callee k
-      → GivesSo (LiftsSo C t n h) (let d : Done A = after (all_moved from.at from.callee k.moved (with_instance from.at (with_slots k.slots i) h)) (λ done l. Gives v l) in d)
+      → LeavesSo C (LiftsSo C t n h) (let d : Done A = after (all_moved from.at from.callee k.moved (with_instance from.at (with_slots k.slots i) h)) (λ done l. Gives v l) in d)
   given_so k v (inl g) =
       let same : (let d : Done A = after (all_moved from.at from.callee k.moved (with_instance from.at (with_slots k.slots i) h)) (λ done l. Gives v l) in d) ≡ Gives v (slotted from.at k.slots g.base) =
       ap (λ (l : Held). after (all_moved from.at from.callee k.moved l) (λ (done : Unit {0}) m. Gives v m)) (slotted_is from.at k.slots h i there)
       ∙ ap (λ (d : Done (Unit {0})). after d (λ (done : Unit {0}) m. Gives v m)) (moved_over from.at from.callee k.slots k.moved h)
       ∙ ap (λ (d : Done (Unit {0})). after (over from.at k.slots d) (λ (done : Unit {0}) m. Gives v m)) g.moved in
-      subst (λ (d : Done A). GivesSo (LiftsSo C t n h) d) (sym same)
+      subst (λ (d : Done A). LeavesSo C (LiftsSo C t n h) d) (sym same)
       (subst (λ (l : Held). HasBut C t n l) (slotted_is from.at k.slots g.base g.inst g.there) g.but, g.prior)
   given_so k v (inr stuck) =
       let same : (let d : Done A = after (all_moved from.at from.callee k.moved (with_instance from.at (with_slots k.slots i) h)) (λ done l. Gives v l) in d) ≡ Stuck =
       ap (λ (l : Held). after (all_moved from.at from.callee k.moved l) (λ (done : Unit {0}) m. Gives v m)) (slotted_is from.at k.slots h i there)
       ∙ ap (λ (d : Done (Unit {0})). after d (λ (done : Unit {0}) m. Gives v m)) (moved_over from.at from.callee k.slots k.moved h)
       ∙ ap (λ (d : Done (Unit {0})). after (over from.at k.slots d) (λ (done : Unit {0}) m. Gives v m)) stuck in
-      subst (λ (d : Done A). GivesSo (LiftsSo C t n h) d) (sym same) tt
+      subst (λ (d : Done A). LeavesSo C (LiftsSo C t n h) d) (sym same) tt
 
-  stopped_so : (stop : Stop WorldEntry) → GivesSo (LiftsSo C t n h) (settled from i (tables.given (let c : Comes A = Err stop in c)) h)
-  stopped_so stop = so_behind (LiftsSo C t n h) (all_moved from.at from.callee stop.moved (with_instance from.at (with_slots stop.slots i) h)) (λ done k. Traps (lift_name stop.trap.why) k) (λ done k e. tt)
+  stopped_so : (stop : Stop WorldEntry) → MayGo C t n B h from.at from.callee (record { left = 0; slots = stop.slots; moved = stop.moved })
+      → LeavesSo C (LiftsSo C t n h) (settled from i (tables.given (let c : Comes A = Err stop in c)) h)
+  stopped_so stop (inl g) =
+      let same : (let d : Done A = after (all_moved from.at from.callee stop.moved (with_instance from.at (with_slots stop.slots i) h)) (λ done l. Traps (lift_name stop.trap.why) l) in d)
+      ≡ Traps (lift_name stop.trap.why) (slotted from.at stop.slots g.base) =
+      ap (λ (l : Held). after (all_moved from.at from.callee stop.moved l) (λ (done : Unit {0}) m. Traps (lift_name stop.trap.why) m)) (slotted_is from.at stop.slots h i there)
+      ∙ ap (λ (d : Done (Unit {0})). after d (λ (done : Unit {0}) m. Traps (lift_name stop.trap.why) m)) (moved_over from.at from.callee stop.slots stop.moved h)
+      ∙ ap (λ (d : Done (Unit {0})). after (over from.at stop.slots d) (λ (done : Unit {0}) m. Traps (lift_name stop.trap.why) m)) g.moved in
+      subst (λ (d : Done A). LeavesSo C (LiftsSo C t n h) d) (sym same)
+      (right_at C t n (slotted from.at stop.slots g.base) (subst (λ (l : Held). HasBut C t n l) (slotted_is from.at stop.slots g.base g.inst g.there) g.but))
+  stopped_so stop (inr stuck) =
+      let same : (let d : Done A = after (all_moved from.at from.callee stop.moved (with_instance from.at (with_slots stop.slots i) h)) (λ done l. Traps (lift_name stop.trap.why) l) in d) ≡ Stuck =
+      ap (λ (l : Held). after (all_moved from.at from.callee stop.moved l) (λ (done : Unit {0}) m. Traps (lift_name stop.trap.why) m)) (slotted_is from.at stop.slots h i there)
+      ∙ ap (λ (d : Done (Unit {0})). after d (λ (done : Unit {0}) m. Traps (lift_name stop.trap.why) m)) (moved_over from.at from.callee stop.slots stop.moved h)
+      ∙ ap (λ (d : Done (Unit {0})). after (over from.at stop.slots d) (λ (done : Unit {0}) m. Traps (lift_name stop.trap.why) m)) stuck in
+      subst (λ (d : Done A). LeavesSo C (LiftsSo C t n h) d) (sym same) tt
 
   value_so : (v : A) (left : ℕ) (r : Result (Kept WorldEntry) (Stop WorldEntry)) → AllTook C t n B h from.at from.callee types r
-      → GivesSo (LiftsSo C t n h) (settled from i (tables.given (let c : Comes A = counting r (λ now. Ok (v, record { left = left; slots = now.slots; moved = now.moved })) in c)) h)
+      → LeavesSo C (LiftsSo C t n h) (settled from i (tables.given (let c : Comes A = counting r (λ now. Ok (v, record { left = left; slots = now.slots; moved = now.moved })) in c)) h)
   value_so v left (Ok k) g = given_so k v g
-  value_so v left (Err stop) g = stopped_so stop
+  value_so v left (Err stop) g = stopped_so stop g
 
-  fault_so : (fault : LiftTrap) (r : Result (Kept WorldEntry) (Stop WorldEntry))
-      → GivesSo (LiftsSo C t n h) (settled from i (tables.given (let c : Comes A = counting r (λ now. Err (tables.stopped fault now)) in c)) h)
-  fault_so fault (Ok k) = stopped_so (tables.stopped fault k)
-  fault_so fault (Err stop) = stopped_so stop
+  fault_so : (fault : LiftTrap) (r : Result (Kept WorldEntry) (Stop WorldEntry)) → AllTook C t n B h from.at from.callee types r
+      → LeavesSo C (LiftsSo C t n h) (settled from i (tables.given (let c : Comes A = counting r (λ now. Err (tables.stopped fault now)) in c)) h)
+  fault_so fault (Ok k) g = stopped_so (tables.stopped fault k) (at_stop C t n B h from.at from.callee k 0 g)
+  fault_so fault (Err stop) g = stopped_so stop g
 
   came_so : (carry : (ℕ → ℕ) → A → A) (first : Kept WorldEntry) (r : Came Listed (LiftTrap × List Use) A)
       → AllTook C t n B h from.at from.callee types (applied seen_as of_handle end_type_of types (uses_in r) first)
-      → GivesSo (LiftsSo C t n h) (settled from i (tables.given (listed.settled seen_as of_handle end_type_of types carry first r)) h)
+      → LeavesSo C (LiftsSo C t n h) (settled from i (tables.given (listed.settled seen_as of_handle end_type_of types carry first r)) h)
   came_so carry first (Ok x) done = value_so (carry (listed.names_in seen_as first.slots) x.0) x.1.left (applied seen_as of_handle end_type_of types x.1.uses first) done
-  came_so carry first (Err x) done = fault_so x.0 (applied seen_as of_handle end_type_of types x.1 first)
+  came_so carry first (Err x) done = fault_so x.0 (applied seen_as of_handle end_type_of types x.1 first) done
 
   -- A lifting that settles so, from the table as it is.
   pub lifting_but : (carry : (ℕ → ℕ) → A → A) (left : ℕ) (r : Came Listed (LiftTrap × List Use) A) (came : Comes A)
       → came ≡ listed.settled seen_as of_handle end_type_of types carry (at_first left i.slots []) r → LendOnly B (uses_in r) → (B → CalledFrom h from.at from.callee) → HasBut C t n h
-      → GivesSo (LiftsSo C t n h) (settled from i (tables.given came) h)
+      → LeavesSo C (LiftsSo C t n h) (settled from i (tables.given came) h)
   lifting_but carry left r came is lends called but =
       let first : Kept WorldEntry = at_first left i.slots [] in
       let goes : Goes C t n B h from.at from.callee first = record {
@@ -352,5 +370,5 @@ module _ (A : Type 0) (C : Type 0) (t n : ℕ) (B : Type 0) (h : Held) (from : O
         prior = prior_all h h refl;
         from = called;
       } in
-      subst (λ (c : Comes A). GivesSo (LiftsSo C t n h) (settled from i (tables.given c) h)) (sym is)
+      subst (λ (c : Comes A). LeavesSo C (LiftsSo C t n h) (settled from i (tables.given c) h)) (sym is)
       (came_so carry first r (uses_took C t n B h from.at from.callee types (uses_in r) first lends (inl goes)))

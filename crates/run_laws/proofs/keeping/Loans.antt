@@ -63,7 +63,7 @@ pub record GaveBack (h k : Held) (at : ℕ) (handles : List ℕ) : Type 0 where
 
 abbrev pub BackBy : {A : Type 0} → Held → ℕ → List ℕ → Done A → Type 0
 BackBy h at handles (Gives x k) = GaveBack h k at handles
-BackBy h at handles (Traps why k) = Unit {0}
+BackBy h at handles (Traps why k) = ⊥
 BackBy h at handles (Spent k) = Unit {0}
 BackBy h at handles Stuck = Unit {0}
 
@@ -104,7 +104,7 @@ one_more h k l at handle handles p q = record {
 
 further : {A : Type 0} (h k : Held) (at handle : ℕ) (handles : List ℕ) (d : Done A) → GaveBack h k at (handle ∷ []) → BackBy k at handles d → BackBy h at (handle ∷ handles) d
 further h k at handle handles (Gives x l) p q = one_more h k l at handle handles p q
-further h k at handle handles (Traps why l) p q = tt
+further h k at handle handles (Traps why l) p q = q
 further h k at handle handles (Spent l) p q = tt
 further h k at handle handles Stuck p q = tt
 

@@ -96,7 +96,7 @@ looped_marks h k t word why x i i1 l =
     at_every h (slice_get k.tasks t) x
     (λ z. happened (event_answer (event.Block (blocked_at.Loop word) false) z.task) t (advanced_slot (event.Block (blocked_at.Loop word) false) z) m)
     (λ done n. after (told (line.Block t why) n) (λ done o. left_chain o)) (ap (λ (ts : List TaskSlot). slice_get ts t) l.tasks ∙ l.is)
-    (acted_every h m t (event.Block (blocked_at.Loop word) false) x (λ done n. after (told (line.Block t why) n) (λ done o. left_chain o))
+    (acted_every h m t (event.Block (blocked_at.Loop word) false) x (λ done n. after (told (line.Block t why) n) (λ done o. left_chain o)) refl
     (λ acts none.
     let n : Held = with_task t (slots.with_task (tasks.after (event.Block (blocked_at.Loop word) false) x.task) x) m in
     every_through h n (after (told (line.Block t why) n) (λ done o. left_chain o)) (loops_out h k n t word x i i1 l acts refl refl) (told_and_left (line.Block t why) n))))
@@ -161,7 +161,7 @@ at_set_marks h t word index why x is runs one once e =
 loops_so : (h : Held) (t word : ℕ) (x : TaskSlot) (r : Result Next BadCode) → callback_of word ≡ r → slice_get h.tasks t ≡ Some x → runs_func x.callee ≡ true → OneHolds h
     → ((i : InstanceView) → slice_get h.instances x.instance ≡ Some i → StandOnce i) → KeepsMarks h (loops_by t x.instance word r h)
 unfolding looped
-loops_so h t word x (Err why) e is runs one once = tt
+loops_so h t word x (Err why) e is runs one once = λ marks. marks.lends
 loops_so h t word x (Ok next.Exit) e is runs one once = ending_marks t h
 loops_so h t word x (Ok next.Yield) e is runs one once = by_instance h t word x (slice_get h.instances x.instance) refl e is runs one
   where

@@ -1,25 +1,22 @@
 -- Values that are lowered into the table of an instance: what is kept stays so, but that borrow handles of the task are counted still.
-use Rattle.std.proofs.Common.{◌≡◌, ◌∙◌, ◌+◌, ◌<◌, ℕ, zero, suc, map, nat_eq, Bool, true, false, if◌then◌else◌, List, [], ◌∷◌, slice_set, length, Option, Some, None, refl, sym, ap, subst, arith, inl, inr}
+use Rattle.std.proofs.Common.{◌≡◌, ◌∙◌, ◌+◌, ◌<◌, ℕ, zero, suc, map, Bool, true, false, if◌then◌else◌, List, [], ◌∷◌, slice_set, length, Option, Some, None, refl, sym, ap, subst, arith, inl, inr}
 use Rattle.std.specs.List.{slice_get}
 use Rattle.std.proofs.lemmas.Bool.{and_parts}
 use Rattle.syntax_trees.specs.declared.types.ValType.{ValType}
 use Rattle.syntax_trees.specs.declared.value.Value.{Value}
 use Rattle.syntax_trees.specs.Fits.{fits}
 use Rattle.laid_types.specs.Known.{Numbered}
-use Rattle.handle_table.specs.Slots.{Slots, count, added, next_of}
+use Rattle.handle_table.specs.Slots.{Slots, count, added}
 use Rattle.res_handles.specs.Calls as handles
-use Rattle.stream_ends.specs.declared.side.Side.TheVariants.{Reader}
-use Rattle.channels.specs.declared.channel.Channel.{Channel}
 use Rattle.value_lower.specs.declared.ends.LowerWhy.{LowerWhy}
 use Rattle.value_lower.specs.declared.ends.LowerWhy.TheVariants as lower_why
-use Rattle.value_lower.specs.Plan.{New, NewOwn, NewBorrow, NewEnd, Plan, Gives as Given, Fails, Asks, Size, Put, Adds}
+use Rattle.value_lower.specs.Plan.{NewOwn, NewBorrow, NewEnd, Plan, Gives as Given, Fails, Asks, Size, Put, Adds}
 use Rattle.value_lower.specs.Following as follow
 use Rattle.value_lower.specs.Following.{Follows}
-use Rattle.value_lower.specs.Tables.{IsEntry, gets, entered}
+use Rattle.value_lower.specs.Tables.{IsEntry}
 use Rattle.comp_graph.specs.Graph.{Graph}
 use Rattle.graph_views.specs.Canons.{canon_at}
 use Rattle.graph_views.specs.Names.{builtin_of}
-use Rattle.comp_graph.specs.declared.graph.CanonFunc.{CanonFunc}
 use Rattle.copy_engine.specs.declared.acts.Act.{Act}
 use Rattle.copy_engine.specs.declared.acts.Acts.{Acts}
 use Rattle.copy_engine.specs.declared.answering.CallRefusal.{CallRefusal}
@@ -35,9 +32,7 @@ use Rattle.copy_engine.specs.Copying.{all_fit}
 use Rattle.copy_engine.specs.Nested.{bytes_in}
 use Rattle.copy_engine.specs.Hosted.{Placed, hosted_rooms, as_plan, plan_to, plan_all}
 use Rattle.instances.specs.declared.entry.WorldEntry.{WorldEntry}
-use Rattle.instances.specs.declared.entry.WorldEntry.TheVariants as entry
 use Rattle.instances.specs.Entries.{seen_as, of_handle, of_end}
-use Rattle.instances.specs.Instances as instance
 use Rattle.instances.specs.Instances.{InstanceView, with_slots}
 use Rattle.programs.specs.declared.program.Program.{Program}
 use Rattle.programs.specs.Program.{resources_of}
@@ -45,15 +40,14 @@ use Rattle.task_table.specs.declared.slot.TaskSlot.{TaskSlot}
 use Rattle.task_table.specs.Slots.{with_word}
 use Rattle.trace_labels.specs.declared.label.Label.{Label}
 use Rattle.trace_labels.specs.declared.label.Label.TheVariants as line
-use Rattle.world_parts.specs.Held.{Held, Done, Gives, Traps, Spent, Stuck, after, given}
+use Rattle.world_parts.specs.Held.{Held, Done, Gives, Stuck, after, given}
 use Rattle.world_parts.specs.Entries.{with_instance}
 use Rattle.world_parts.specs.Feed.{told}
 use Rattle.world_parts.specs.Slots.{with_task, context_set}
 use Rattle.value_parts.specs.Coming.{Behind}
 use Rattle.value_moves.specs.declared.lowering.Destination.{Destination}
-use Rattle.value_moves.specs.Lowering.{Site, site_found, got_told, act_told, all_told, call_refused, code_trapped, lowered_by, finished, setting_in, begun_at, with_room, left_at, LowersAt, LowersInto, LowersAll}
+use Rattle.value_moves.specs.Lowering.{Site, site_found, got_told, act_told, all_told, call_refused, code_trapped, lowered_by, finished, setting_in, begun_at, left_at, LowersAt, LowersInto, LowersAll}
 use Rattle.abi_machine.proofs.sound.Found.{some_same}
-use Rattle.standing.specs.Channels.{EndMarked}
 use Rattle.standing.specs.EndMarks.{EntryMarked}
 use Rattle.standing.specs.KeptMarks.{is_borrow_of}
 use Rattle.standing.proofs.Agreeing.{get_set}
@@ -61,9 +55,9 @@ use Rattle.standing.proofs.Lists.{set_same}
 use Rattle.standing.proofs.marks.Inside.{same_seen}
 use Rattle.run_laws.specs.keeping.Lowerings.{EndComes}
 use Rattle.run_laws.proofs.keeping.Alike.{same_task, set_twice}
-use Rattle.run_laws.proofs.keeping.But.{lent_there, HasBut, GivesSo, GivesBut, MarkedBut, task_but, but_as, so_given, so_after, so_behind}
+use Rattle.run_laws.proofs.keeping.But.{lent_there, HasBut, GivesBut, task_but, but_as, leaves_given, leaves_after, leaves_over, right_at}
 use Rattle.run_laws.proofs.keeping.Changing.{IsPassed, entry_comes, borrow_comes}
-use Rattle.run_laws.proofs.keeping.Planned.{Counted, AreAll, Ends, ends_typed, in_elements, borrow_count, all_count, flat_counted, stored_counted, placed_counted, list_stored_counted}
+use Rattle.run_laws.proofs.keeping.Planned.{Counted, AreAll, ends_typed, in_elements, borrow_count, all_count, flat_counted, stored_counted, placed_counted, list_stored_counted}
 
 -- What a plan leaves.
 module _ (C : Type 0) (h : Held) (at task : ℕ) (inst : InstanceView) (here : slice_get h.instances at ≡ Some inst) (types : List ValType) (to : Setting) where
@@ -133,6 +127,43 @@ module _ (C : Type 0) (h : Held) (at task : ℕ) (inst : InstanceView) (here : s
       (comes n p.slots mid.slots (of_end place number) (same ∙ ap (λ (x : WorldEntry). added x p.slots) is) tt less refl (λ m. refl) (λ c. good c place of) but)
   plan_leaves (Adds (NewEnd type number) k) p q words b n (good, counted, full) (None, mid, got, rest) but = failed_not lower_why.TableFull words mid q (Slotted (n + b) q.slots) (k None) full rest
 
+  -- Wherever a plan stops it leaves the table so, where some borrow handles are counted still.
+  abbrev Owing : Slots WorldEntry → Type 0
+  Owing slots = (n : ℕ) × Slotted n slots
+
+  abbrev Stops : Plan → Room → follow.Came HostedTrap → Room → Type 0
+  Stops plan p came q = Follows (hosted_rooms seen_as (IsEntry of_handle of_end task types) to) plan p came q
+
+  full_stops : (n : ℕ) (k : Plan) (p q : Room) (came : follow.Came HostedTrap) → k ≡ Fails lower_why.TableFull → Stops k p came q → Slotted n p.slots → Owing q.slots
+  full_stops n k p q came is c but = by (subst (λ (l : Plan). Stops l p came q) is c)
+    where
+      by : Stops (Fails lower_why.TableFull) p came q → Owing q.slots
+      by (failed, left) = (n, as_slots n p q (ap (λ (r : Room). r.slots) left) but)
+
+  plan_stops : (plan : Plan) (p q : Room) (came : follow.Came HostedTrap) (b n : ℕ) → Counted EndsCome plan b → Stops plan p came q → Slotted n p.slots → Owing q.slots
+  plan_stops (Given all) p q came b n none (is, left) but = (n, as_slots n p q (ap (λ (r : Room). r.slots) left) but)
+  plan_stops (Fails why) p q came b n counted (is, left) but = (n, as_slots n p q (ap (λ (r : Room). r.slots) left) but)
+  plan_stops (Asks ask k) p q came b n counted (inl (place, mid, ((gives, grows, slots), low, longer), rest)) but =
+      plan_stops (k place) mid q came b n (counted place) rest (as_slots n p mid slots but)
+  plan_stops (Asks ask k) p q came b n counted (inr (end, (gives, grows, slots), is)) but = (n, as_slots n p q slots but)
+  plan_stops (Size k) p q came b n counted rest but =
+      plan_stops (k (length (bytes_in to.options.memory p.room.store))) p q came b n (counted (length (bytes_in to.options.memory p.room.store))) rest but
+  plan_stops (Put place bytes k) p q came b n counted (mid, ((inside, room, slots), memory), rest) but = plan_stops k mid q came b n counted rest (as_slots n p mid slots but)
+  plan_stops (Adds (NewOwn resource rep) k) p q came b n (counted, full) (Some index, mid, (((e, is, less, next, same), room), memory), rest) but =
+      plan_stops (k (Some index)) mid q came b n (counted index) rest
+      (comes n p.slots mid.slots (of_handle (handles.own_handle resource rep)) (same ∙ ap (λ (x : WorldEntry). added x p.slots) is) tt less refl (λ m. refl) (λ c. tt) but)
+  plan_stops (Adds (NewOwn resource rep) k) p q came b n (counted, full) (None, mid, (((many, same), room), memory), rest) but =
+      full_stops n (k None) mid q came full rest (as_slots n p mid same but)
+  plan_stops (Adds (NewBorrow resource rep) k) p q came b n (m, one, counted, full) (Some index, mid, (((e, is, less, next, same), room), memory), rest) but =
+      plan_stops (k (Some index)) mid q came m (n + 1) (counted index) rest (borrow_more n resource rep p.slots mid.slots (same ∙ ap (λ (x : WorldEntry). added x p.slots) is) less but)
+  plan_stops (Adds (NewBorrow resource rep) k) p q came b n (m, one, counted, full) (None, mid, (((many, same), room), memory), rest) but =
+      full_stops n (k None) mid q came full rest (as_slots n p mid same but)
+  plan_stops (Adds (NewEnd type number) k) p q came b n (good, counted, full) (Some index, mid, (((e, (place, of, is), less, next, same), room), memory), rest) but =
+      plan_stops (k (Some index)) mid q came b n (counted index) rest
+      (comes n p.slots mid.slots (of_end place number) (same ∙ ap (λ (x : WorldEntry). added x p.slots) is) tt less refl (λ m. refl) (λ c. good c place of) but)
+  plan_stops (Adds (NewEnd type number) k) p q came b n (good, counted, full) (None, mid, (((many, same), room), memory), rest) but =
+      full_stops n (k None) mid q came full rest (as_slots n p mid same but)
+
 -- Behind a lowering the task has the words of context as the code left them, and the calls are told.
 module _ (C : Type 0) (task n : ℕ) where
   told_but : (label : Label) (h : Held) → HasBut C task n h → GivesBut C task n (told label h)
@@ -140,7 +171,7 @@ module _ (C : Type 0) (task n : ℕ) where
 
   pub context_but : (t number word : ℕ) (h : Held) → HasBut C task n h → GivesBut C task n (context_set t number word h)
   context_but t number word h but =
-      so_given (λ (k : Held). HasBut C task n k) (slice_get h.tasks t) (λ slot. Gives (tt {0}) (with_task t (with_word number word slot) h))
+      leaves_given C (λ (k : Held). HasBut C task n k) (slice_get h.tasks t) (λ slot. Gives (tt {0}) (with_task t (with_word number word slot) h))
       (λ slot is.
       task_but C task n h t slot (with_word number word slot) is (same_task slot (with_word number word slot) refl refl refl refl refl)
       (same_seen slot (with_word number word slot) refl refl refl refl) (λ m. m) but)
@@ -151,53 +182,57 @@ module _ (C : Type 0) (task n : ℕ) where
 
   act_but : (g : Graph) (t : ℕ) (act : Act) (h : Held) → HasBut C task n h → GivesBut C task n (act_told g t act h)
   act_but g t act h but =
-      so_given (λ (k : Held). HasBut C task n k) (canon_at g act.canon) (λ c. after (told (line.Do t (builtin_of c) act.words) h) (λ done k. got_told t act.got k))
-      (λ c is. so_after (λ (k : Held). HasBut C task n k) (told (line.Do t (builtin_of c) act.words) h) (λ done k. got_told t act.got k) but (λ done k b. got_but t act.got k b))
+      leaves_given C (λ (k : Held). HasBut C task n k) (canon_at g act.canon) (λ c. after (told (line.Do t (builtin_of c) act.words) h) (λ done k. got_told t act.got k))
+      (λ c is. leaves_after C (λ (k : Held). HasBut C task n k) (told (line.Do t (builtin_of c) act.words) h) (λ done k. got_told t act.got k) but (λ done k b. got_but t act.got k b))
 
   all_but : (g : Graph) (t : ℕ) (acts : List Act) (h : Held) → HasBut C task n h → GivesBut C task n (all_told g t acts h)
   all_but g t [] h but = but
-  all_but g t (act ∷ acts) h but = so_after (λ (k : Held). HasBut C task n k) (act_told g t act h) (λ done k. all_told g t acts k) (act_but g t act h but) (λ done k b. all_but g t acts k b)
+  all_but g t (act ∷ acts) h but = leaves_after C (λ (k : Held). HasBut C task n k) (act_told g t act h) (λ done k. all_told g t acts k) (act_but g t act h but) (λ done k b. all_but g t acts k b)
 
   finished_but : (g : Graph) (t : ℕ) (acts : Acts) (words : List ℕ) (h : Held) → HasBut C task n h → GivesBut C task n (finished g t acts (lowered.Words words) h)
   unfolding finished
   finished_but g t acts words h but =
-      so_after (λ (k : Held). HasBut C task n k) (context_set t 0 acts.context.0 h)
+      leaves_after C (λ (k : Held). HasBut C task n k) (context_set t 0 acts.context.0 h)
       (λ done k. after (context_set t 1 acts.context.1 k) (λ done l. after (all_told g t acts.calls l) (λ done m. lowered_by (lowered.Words words) m))) (context_but t 0 acts.context.0 h but)
       (λ done k b.
-      so_after (λ (k : Held). HasBut C task n k) (context_set t 1 acts.context.1 k) (λ done l. after (all_told g t acts.calls l) (λ done m. lowered_by (lowered.Words words) m)) (context_but t 1 acts.context.1 k b)
-      (λ done l c. so_after (λ (k : Held). HasBut C task n k) (all_told g t acts.calls l) (λ done m. lowered_by (lowered.Words words) m) (all_but g t acts.calls l c) (λ done m d. d)))
+      leaves_after C (λ (k : Held). HasBut C task n k) (context_set t 1 acts.context.1 k) (λ done l. after (all_told g t acts.calls l) (λ done m. lowered_by (lowered.Words words) m)) (context_but t 1 acts.context.1 k b)
+      (λ done l c. leaves_after C (λ (k : Held). HasBut C task n k) (all_told g t acts.calls l) (λ done m. lowered_by (lowered.Words words) m) (all_but g t acts.calls l c) (λ done m d. d)))
 
-  refused_not : (why : CallRefusal) (h : Held) → GivesBut C task n (call_refused why h)
-  refused_not refusal.CannotLeave h = tt
-  refused_not (refusal.Refused why) h = tt
-  refused_not refusal.NoRule h = tt
+-- Else no words come, and what is kept is right, whatever is counted still.
+abbrev IsOtherEnd : Lowered → Type 0
+IsOtherEnd (lowered.Words words) = ⊥
+IsOtherEnd (lowered.Failed why) = Unit {0}
+IsOtherEnd (lowered.Trapped why) = Unit {0}
+IsOtherEnd lowered.NoFuel = Unit {0}
 
-  trapped_not : (why : HostedTrap) (h : Held) → GivesBut C task n (code_trapped why h)
-  trapped_not (hosted.Core why) h = tt
-  trapped_not (hosted.Call why) h = refused_not why h
-  trapped_not hosted.NoRealloc h = tt
+module _ (C : Type 0) (task n m : ℕ) where
+  refused_not : (why : CallRefusal) (h : Held) → HasBut C task m h → GivesBut C task n (call_refused why h)
+  refused_not refusal.CannotLeave h but = right_at C task m h but
+  refused_not (refusal.Refused why) h but = right_at C task m h but
+  refused_not refusal.NoRule h but = tt
 
-  -- Else no words come.
-  abbrev IsOtherEnd : Lowered → Type 0
-  IsOtherEnd (lowered.Words words) = ⊥
-  IsOtherEnd (lowered.Failed why) = Unit {0}
-  IsOtherEnd (lowered.Trapped why) = Unit {0}
-  IsOtherEnd lowered.NoFuel = Unit {0}
+  trapped_not : (why : HostedTrap) (h : Held) → HasBut C task m h → GivesBut C task n (code_trapped why h)
+  trapped_not (hosted.Core why) h but = right_at C task m h but
+  trapped_not (hosted.Call why) h but = refused_not why h but
+  trapped_not hosted.NoRealloc h but = tt
 
-  ended_not : (came : Lowered) (h : Held) → IsOtherEnd came → GivesBut C task n (lowered_by came h)
-  ended_not (lowered.Words words) h q = absurd q
-  ended_not (lowered.Failed why) h q = tt
-  ended_not (lowered.Trapped why) h q = trapped_not why h
-  ended_not lowered.NoFuel h q = tt
+  ended_not : (came : Lowered) (h : Held) → IsOtherEnd came → HasBut C task m h → GivesBut C task n (lowered_by came h)
+  ended_not (lowered.Words words) h q but = absurd q
+  ended_not (lowered.Failed why) h q but = right_at C task m h but
+  ended_not (lowered.Trapped why) h q but = trapped_not why h but
+  ended_not lowered.NoFuel h q but = tt
 
-  unfinished : (g : Graph) (t : ℕ) (acts : Acts) (came : Lowered) (h : Held) → IsOtherEnd came → GivesBut C task n (finished g t acts came h)
+  unfinished : (g : Graph) (t : ℕ) (acts : Acts) (came : Lowered) (h : Held) → IsOtherEnd came → HasBut C task m h → GivesBut C task n (finished g t acts came h)
   unfolding finished
-  unfinished g t acts came h q =
-      so_behind (λ (k : Held). HasBut C task n k) (context_set t 0 acts.context.0 h)
-      (λ done k. after (context_set t 1 acts.context.1 k) (λ done l. after (all_told g t acts.calls l) (λ done m. lowered_by came m)))
-      (λ done k e.
-      so_behind (λ (k : Held). HasBut C task n k) (context_set t 1 acts.context.1 k) (λ done l. after (all_told g t acts.calls l) (λ done m. lowered_by came m))
-      (λ done l f. so_behind (λ (k : Held). HasBut C task n k) (all_told g t acts.calls l) (λ done m. lowered_by came m) (λ done m g. ended_not came m q)))
+  unfinished g t acts came h q but =
+      leaves_over C (λ (k : Held). HasBut C task n k) (λ (k : Held). HasBut C task m k) (context_set t 0 acts.context.0 h)
+      (λ done k. after (context_set t 1 acts.context.1 k) (λ done l. after (all_told g t acts.calls l) (λ done j. lowered_by came j))) (context_but C task m t 0 acts.context.0 h but)
+      (λ done k b.
+      leaves_over C (λ (k : Held). HasBut C task n k) (λ (k : Held). HasBut C task m k) (context_set t 1 acts.context.1 k)
+      (λ done l. after (all_told g t acts.calls l) (λ done j. lowered_by came j)) (context_but C task m t 1 acts.context.1 k b)
+      (λ done l c.
+      leaves_over C (λ (k : Held). HasBut C task n k) (λ (k : Held). HasBut C task m k) (all_told g t acts.calls l) (λ done j. lowered_by came j) (all_but C task m g t acts.calls l c)
+      (λ done j d. ended_not came j q d)))
 
 -- Each of them fits.
 pub fits_each : (t : ValType) (all : List Value) → all_fit t all ≡ true → (m : ℕ) (w : Value) → slice_get all m ≡ Some w → fits w t ≡ true
@@ -218,15 +253,33 @@ module _ (C : Type 0) (n : ℕ) (g : Graph) (to : Destination) (types : List Val
       plan_leaves C h to.instance to.task s.instance here types (setting_in g to) plan (begun_at s h) placed words b n counted follows first in
       but_as C to.task (n + b) (with_instance to.instance (with_slots placed.slots s.instance) h) (left_at to s placed h) refl refl refl refl last
 
+  left_stops : (plan : Plan) (s : Site) (h : Held) (b : ℕ) (came : follow.Came HostedTrap) (placed : Placed WorldEntry) → slice_get h.instances to.instance ≡ Some s.instance
+      → Counted (λ type number. C → EndComes h types type number) plan b
+      → Follows (hosted_rooms seen_as (IsEntry of_handle of_end to.task types) (setting_in g to)) plan (begun_at s h) came placed → HasBut C to.task n h
+      → (m : ℕ) × HasBut C to.task m (left_at to s placed h)
+  left_stops plan s h b came placed here counted follows but =
+      let first : HasBut C to.task n (with_instance to.instance (with_slots s.instance.slots s.instance) h) =
+      but_as C to.task n h (with_instance to.instance s.instance h) refl (set_same h.instances to.instance s.instance here) refl refl but in
+      let last = plan_stops C h to.instance to.task s.instance here types (setting_in g to) plan (begun_at s h) placed came b n counted follows first in
+      (last.0, but_as C to.task last.0 (with_instance to.instance (with_slots placed.slots s.instance) h) (left_at to s placed h) refl refl refl refl last.1)
+
+  stops_but : (plan : Plan) (s : Site) (h : Held) (b : ℕ) (came : Lowered) (placed : Placed WorldEntry) → IsOtherEnd came → slice_get h.instances to.instance ≡ Some s.instance
+      → Counted (λ type number. C → EndComes h types type number) plan b
+      → Follows (hosted_rooms seen_as (IsEntry of_handle of_end to.task types) (setting_in g to)) plan (begun_at s h) (as_plan came) placed → HasBut C to.task n h
+      → GivesBut C to.task (n + b) (finished g to.task placed.room.acts came (left_at to s placed h))
+  stops_but plan s h b came placed other here counted follows but =
+      let last = left_stops plan s h b (as_plan came) placed here counted follows but in
+      unfinished C to.task (n + b) last.0 g to.task placed.room.acts came (left_at to s placed h) other last.1
+
   came_but : (plan : Plan) (s : Site) (h : Held) (b : ℕ) (came : Lowered) (placed : Placed WorldEntry) → slice_get h.instances to.instance ≡ Some s.instance
       → Counted (λ type number. C → EndComes h types type number) plan b
       → Follows (hosted_rooms seen_as (IsEntry of_handle of_end to.task types) (setting_in g to)) plan (begun_at s h) (as_plan came) placed → HasBut C to.task n h
       → GivesBut C to.task (n + b) (finished g to.task placed.room.acts came (left_at to s placed h))
   came_but plan s h b (lowered.Words words) placed here counted follows but =
       finished_but C to.task (n + b) g to.task placed.room.acts words (left_at to s placed h) (left_but plan s h b words placed here counted follows but)
-  came_but plan s h b (lowered.Failed why) placed here counted follows but = unfinished C to.task (n + b) g to.task placed.room.acts (lowered.Failed why) (left_at to s placed h) tt
-  came_but plan s h b (lowered.Trapped why) placed here counted follows but = unfinished C to.task (n + b) g to.task placed.room.acts (lowered.Trapped why) (left_at to s placed h) tt
-  came_but plan s h b lowered.NoFuel placed here counted follows but = unfinished C to.task (n + b) g to.task placed.room.acts lowered.NoFuel (left_at to s placed h) tt
+  came_but plan s h b (lowered.Failed why) placed here counted follows but = stops_but plan s h b (lowered.Failed why) placed tt here counted follows but
+  came_but plan s h b (lowered.Trapped why) placed here counted follows but = stops_but plan s h b (lowered.Trapped why) placed tt here counted follows but
+  came_but plan s h b lowered.NoFuel placed here counted follows but = stops_but plan s h b lowered.NoFuel placed tt here counted follows but
 
   lowers_but : (plan : Plan) (s : Site) (h : Held) (b : ℕ) (d : Done (List ℕ)) → slice_get h.instances to.instance ≡ Some s.instance
       → Counted (λ type number. C → EndComes h types type number) plan b → LowersAt g to types plan s h d → HasBut C to.task n h → GivesBut C to.task (n + b) d

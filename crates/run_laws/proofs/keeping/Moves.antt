@@ -72,17 +72,17 @@ alike_marks h k t at x y i j m tasks insts alike state =
     (same_keeps (with_task t y h) at i j m.here m.slots (task_keeps h t x y m.is alike state marks))))
 
 -- What happened to a task, where it did.
-acted_by : {A : Type 0} (h l : Held) (t : ℕ) (b : Bool) (o : Option TaskTrap) (x : TaskSlot) (later : TaskView) (c : Unit {0} → Held → Done A)
+acted_by : {A : Type 0} (h l : Held) (t : ℕ) (b : Bool) (o : Option TaskTrap) (x : TaskSlot) (later : TaskView) (c : Unit {0} → Held → Done A) → o ≡ None
     → (b ≡ true → o ≡ None → KeepsMarks h (c tt (with_task t (slots.with_task later x) l)))
     → KeepsMarks h (after (happened (if b then trapped o else Err event_error.NotNow) t (if b then slots.with_task (unless o later x.task) x else x) l) c)
-acted_by h l t true None x later c p = p refl refl
-acted_by h l t true (Some why) x later c p = tt
-acted_by h l t false o x later c p = tt
+acted_by h l t true None x later c none p = p refl refl
+acted_by h l t true (Some why) x later c none p = absurd (cc)
+acted_by h l t false o x later c none p = tt
 
-pub acted_every : {A : Type 0} (h l : Held) (t : ℕ) (e : TaskEvent) (x : TaskSlot) (c : Unit {0} → Held → Done A)
+pub acted_every : {A : Type 0} (h l : Held) (t : ℕ) (e : TaskEvent) (x : TaskSlot) (c : Unit {0} → Held → Done A) → fault e x.task ≡ None
     → (may_happen e x.task ≡ true → fault e x.task ≡ None → KeepsMarks h (c tt (with_task t (slots.with_task (tasks.after e x.task) x) l)))
     → KeepsMarks h (after (happened (event_answer e x.task) t (advanced_slot e x) l) c)
-acted_every h l t e x c p = acted_by h l t (may_happen e x.task) (fault e x.task) x (tasks.after e x.task) c p
+acted_every h l t e x c none p = acted_by h l t (may_happen e x.task) (fault e x.task) x (tasks.after e x.task) c none p
 
 -- A line, and off the chain.
 pub told_and_left : (label : Label) (m : Held) → KeepsMarks m (after (told label m) (λ done n. left_chain n))

@@ -1,7 +1,6 @@
 -- Values that are passed on: arguments, results and elements that are lowered, in the midst of a passing.
-use Rattle.std.proofs.Common.{◌≡◌, ◌∙◌, ◌+◌, ◌-◌, nat_lt, ℕ, Bool, true, false, ◌||◌, if◌then◌else◌, List, [], ◌∷◌, map, length, Option, Some, None, refl, sym, ap, subst, arith}
+use Rattle.std.proofs.Common.{◌≡◌, ◌∙◌, ◌+◌, ℕ, false, if◌then◌else◌, List, [], ◌∷◌, Option, Some, None, refl, sym, ap, subst, arith}
 use Rattle.std.specs.List.{slice_get}
-use Rattle.syntax_trees.specs.declared.types.ValType.{ValType}
 use Rattle.syntax_trees.specs.declared.value.Value.{Value}
 use Rattle.syntax_trees.specs.Fits.{fits}
 use Rattle.laid_types.specs.Handles.{has_borrow}
@@ -24,7 +23,6 @@ use Rattle.graph_views.specs.Callees.{lift_of}
 use Rattle.graph_views.specs.Names.{builtin_of}
 use Rattle.programs.specs.declared.program.Program.{Program}
 use Rattle.programs.specs.Program.{params_of, returned_of, resources_of}
-use Rattle.task_table.specs.declared.caller.Called.{Called}
 use Rattle.task_table.specs.declared.caller.Caller.{Caller}
 use Rattle.task_table.specs.declared.caller.Caller.TheVariants.{Nobody, Host, Guest}
 use Rattle.task_table.specs.declared.errand.Callee.{Callee}
@@ -34,39 +32,31 @@ use Rattle.task_table.specs.Slots.{with_word, kept_slot}
 use Rattle.trace_labels.specs.declared.label.Label.TheVariants as line
 use Rattle.world_parts.specs.Held.{Held, Done, Gives, Traps, Spent, Stuck, after, given}
 use Rattle.world_parts.specs.Feed.{told}
-use Rattle.world_parts.specs.Slots.{with_task, instance_of as at_of, callee_of, context_set, result_kept}
-use Rattle.value_parts.specs.Coming.{Behind, Then}
+use Rattle.world_parts.specs.Slots.{with_task, context_set, result_kept}
+use Rattle.value_parts.specs.Coming.{Behind}
 use Rattle.value_moves.specs.declared.lowering.Destination.{Destination}
 use Rattle.value_moves.specs.Borrowing.{borrows_counted}
-use Rattle.value_moves.specs.Lowering.{Site, destination_of, got_told, act_told, all_told, call_refused, code_trapped, lowered_by, finished, left_at, LowersAt, LowersInto}
-use Rattle.value_moves.specs.Lowered.{Way, arguments_target, arguments_way, LowersPassed, arguments_entered, LowersArguments, result_target, result_way, LowersBack, LowersKept, LowersFor, LowersResult}
+use Rattle.value_moves.specs.Lowering.{destination_of, got_told, act_told, all_told, call_refused, code_trapped, lowered_by, finished, left_at, LowersAt, LowersInto}
+use Rattle.value_moves.specs.Lowered.{Way, arguments_target, arguments_entered, LowersArguments, result_target, LowersBack, LowersFor, LowersResult}
 use Rattle.abi_machine.proofs.sound.Found.{some_same}
 use Rattle.standing.proofs.States.{keeping_stays}
 use Rattle.standing.proofs.marks.Inside.{same_seen}
 use Rattle.run_laws.specs.keeping.Lowerings.{EndComes, RunsInOwn, HoldsNoBorrow}
 use Rattle.run_laws.proofs.keeping.Alike.{kept_alike}
-use Rattle.run_laws.proofs.keeping.But.{MarkedBut, HasBut, GivesSo, GivesBut, owed, owed_none, task_but, so_given, so_after, so_if, so_both}
+use Rattle.run_laws.proofs.keeping.But.{HasBut, GivesSo, LeavesSo, GivesBut, owed_none, task_but, so_given, so_after, leaves_given, leaves_after, leaves_if, leaves_both}
 use Rattle.run_laws.proofs.keeping.Counting.{all_are_counted}
 use Rattle.run_laws.proofs.keeping.Lowered.{from_site, into_but}
 use Rattle.run_laws.proofs.keeping.NoBorrow.{none_counted}
 use Rattle.run_laws.proofs.keeping.Planned.{borrow_count, AreAll, ends_typed}
-use Rattle.run_laws.proofs.keeping.Prior.{SlotPrior, Before, Prior, prior_slot, prior_all, prior_task, prior_further}
+use Rattle.run_laws.proofs.keeping.Prior.{Before, Prior, prior_all, prior_task, prior_further}
 
 -- What may come behind a part that leaves what is kept so.
 pub behind_but : {A B : Type 0} (C : Type 0) (t n m : ℕ) (d : Done A) (F : A → Held → Done B → Type 0) (e : Done B) → GivesBut C t n d
     → ((x : A) (k : Held) → d ≡ Gives x k → HasBut C t n k → F x k e → GivesBut C t m e) → Behind d F e → GivesBut C t m e
 behind_but C t n m (Gives x k) F e p more b = more x k refl p b
-behind_but {A} {B} C t n m (Traps why k) F e p more b = subst (λ (d : Done B). GivesBut C t m d) (sym b) tt
+behind_but {A} {B} C t n m (Traps why k) F e p more b = subst (λ (d : Done B). GivesBut C t m d) (sym b) p
 behind_but {A} {B} C t n m (Spent k) F e p more b = subst (λ (d : Done B). GivesBut C t m d) (sym b) tt
 behind_but {A} {B} C t n m Stuck F e p more b = subst (λ (d : Done B). GivesBut C t m d) (sym b) tt
-
--- Whatever the part leaves.
-pub behind_any : {A B : Type 0} (C : Type 0) (t m : ℕ) (d : Done A) (F : A → Held → Done B → Type 0) (e : Done B)
-    → ((x : A) (k : Held) → d ≡ Gives x k → F x k e → GivesBut C t m e) → Behind d F e → GivesBut C t m e
-behind_any C t m (Gives x k) F e more b = more x k refl b
-behind_any {A} {B} C t m (Traps why k) F e more b = subst (λ (d : Done B). GivesBut C t m d) (sym b) tt
-behind_any {A} {B} C t m (Spent k) F e more b = subst (λ (d : Done B). GivesBut C t m d) (sym b) tt
-behind_any {A} {B} C t m Stuck F e more b = subst (λ (d : Done B). GivesBut C t m d) (sym b) tt
 
 pub as_but : {A : Type 0} (C : Type 0) (t n : ℕ) (d e : Done A) → d ≡ e → GivesBut C t n e → GivesBut C t n d
 as_but {A} C t n d e is p = subst (λ (x : Done A). GivesBut C t n x) (sym is) p
@@ -154,10 +144,10 @@ module _ (C : Type 0) (p : Program) (t : ℕ) where
       (let d : Done (List ℕ) = after (given o (λ y. Gives y.instance l)) (λ at k. given (resources_of p at) (λ own. after (borrows_counted own t v k) (λ done m. Gives words m))) in d)
   entered_by v l words slot home None found same own but = tt
   entered_by v l words slot home (Some y) found same own but =
-      so_given (λ (k : Held). HasBut C t 0 k) (resources_of p y.instance) (λ mine. after (borrows_counted mine t v l) (λ done m. Gives words m))
+      leaves_given C (λ (k : Held). HasBut C t 0 k) (resources_of p y.instance) (λ mine. after (borrows_counted mine t v l) (λ done m. Gives words m))
       (λ mine is.
       let home_is : home ≡ mine = some_same (sym own ∙ ap (λ (at : ℕ). resources_of p at) (sym (same y refl)) ∙ is) in
-      so_after (λ (k : Held). HasBut C t 0 k) (borrows_counted mine t v l) (λ done m. Gives words m)
+      leaves_after C (λ (k : Held). HasBut C t 0 k) (borrows_counted mine t v l) (λ done m. Gives words m)
       (all_are_counted C mine t v 0 l
       (subst (λ (n : ℕ). HasBut C t n l) (let none : borrow_count mine v ≡ borrow_count mine v + 0 = omega arith in none)
       (subst (λ (own : List ℕ). HasBut C t (borrow_count own v) l) home_is but))) (λ done m b. b))
@@ -167,19 +157,19 @@ module _ (C : Type 0) (p : Program) (t : ℕ) where
       → LowersInto p (destination_of f.instance t f.options h) type v (arguments_target type.val_type) h first
       → Behind first (λ words k e. e ≡ arguments_entered p t v words k) d → HasBut C t 0 h → GivesBut C t 0 d
   passed_on v h slot f type home first d is own mine ends into b but =
-      behind_both first (so_both (λ (k : Held). HasBut C t (borrow_count home v) k) (λ (k : Held). Prior h k) first
+      behind_both first (leaves_both C (λ (k : Held). HasBut C t (borrow_count home v) k) (λ (k : Held). Prior h k) first
       (subst (λ (n : ℕ). GivesBut C t n first) (let none : 0 + borrow_count home v ≡ borrow_count home v = omega arith in none)
       (into_but C 0 p (destination_of f.instance t f.options h) type v (arguments_target type.val_type) h first home mine ends into but))
       (into_prior h p (destination_of f.instance t f.options h) type v (arguments_target type.val_type) first into)) b
     where
-      behind_both : (first : Done (List ℕ)) → GivesSo (λ (k : Held). HasBut C t (borrow_count home v) k × Prior h k) first
+      behind_both : (first : Done (List ℕ)) → LeavesSo C (λ (k : Held). HasBut C t (borrow_count home v) k × Prior h k) first
           → Behind first (λ words k e. e ≡ arguments_entered p t v words k) d → GivesBut C t 0 d
       behind_both (Gives words l) q b =
           as_but C t 0 d (arguments_entered p t v words l) b
           (entered_by v l words slot home (slice_get l.tasks t) refl
           (λ y found. (let z : Before h.tasks t y = q.1.before t y found in z.prior.instance ∙ ap (λ (s : TaskSlot). s.instance) (some_same (sym z.is ∙ is))))
           (ap (λ (at : ℕ). resources_of p at) own ∙ mine) q.0)
-      behind_both (Traps why l) q b = as_but C t 0 d (Traps why l) b tt
+      behind_both (Traps why l) q b = as_but C t 0 d (Traps why l) b q
       behind_both (Spent l) q b = as_but C t 0 d (Spent l) b tt
       behind_both Stuck q b = as_but C t 0 d Stuck b tt
 
@@ -199,7 +189,7 @@ module _ (C : Type 0) (p : Program) (t : ℕ) where
         where
           never : Gives words l ≡ Stuck → ⊥
           never e = cc
-      behind_stuck (Traps why l) e b = as_but C t 0 d (Traps why l) b tt
+      behind_stuck (Traps why l) e b = absurd (cc)
       behind_stuck (Spent l) e b = as_but C t 0 d (Spent l) b tt
       behind_stuck Stuck e b = as_but C t 0 d Stuck b tt
 
@@ -211,7 +201,7 @@ module _ (C : Type 0) (p : Program) (t : ℕ) where
         where
           never : (x : Done (List ℕ)) → x ≡ Stuck → Behind x (λ words k e. e ≡ arguments_entered p t v words k) d → GivesBut C t 0 d
           never (Gives words l) e b = absurd (cc)
-          never (Traps why l) e b = as_but C t 0 d (Traps why l) b tt
+          never (Traps why l) e b = absurd (cc)
           never (Spent l) e b = as_but C t 0 d (Spent l) b tt
           never Stuck e b = as_but C t 0 d Stuck b tt
 
@@ -302,9 +292,9 @@ module _ (C : Type 0) (p : Program) where
   -- It is kept.
   pub kept_but : (t u : ℕ) (words : List ℕ) (h : Held) → HasBut C u 0 h → GivesBut C u 0 (result_kept t words h)
   kept_but t u words h but =
-      so_given (λ (k : Held). HasBut C u 0 k) (slice_get h.tasks t) (λ slot. if may_keep slot.caller then Gives (tt {0}) (with_task t (kept_slot words slot) h) else Stuck)
+      leaves_given C (λ (k : Held). HasBut C u 0 k) (slice_get h.tasks t) (λ slot. if may_keep slot.caller then Gives (tt {0}) (with_task t (kept_slot words slot) h) else Stuck)
       (λ slot is.
-      so_if (λ (k : Held). HasBut C u 0 k) (may_keep slot.caller) (Gives (tt {0}) (with_task t (kept_slot words slot) h)) Stuck
+      leaves_if C (λ (k : Held). HasBut C u 0 k) (may_keep slot.caller) (Gives (tt {0}) (with_task t (kept_slot words slot) h)) Stuck
       (task_but C u 0 h t slot (kept_slot words slot) is (kept_alike words slot) (same_seen slot (kept_slot words slot) refl refl refl refl) (keeping_stays t slot words) but) tt)
 
   for_but : (t u : ℕ) (v : Value) (callee : Callee) (c : Caller) (h : Held) (d : Done (Unit {0})) → HoldsNoBorrow p (returned_of p callee) → ResultEnds h callee v
@@ -318,7 +308,7 @@ module _ (C : Type 0) (p : Program) where
     where
       other_task : (m : ℕ) (e : Done (Unit {0})) → GivesBut C m 0 e → GivesBut C u 0 e
       other_task m (Gives x k) q = any_task C m u k q
-      other_task m (Traps why k) q = tt
+      other_task m (Traps why k) q = q
       other_task m (Spent k) q = tt
       other_task m Stuck q = tt
 

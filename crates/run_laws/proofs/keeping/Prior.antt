@@ -1,20 +1,16 @@
 -- What is told of tasks stays where they are others that run what they ran, where they ran, for the same callers; and where, beside this, for calls is lent what was, and tables,
 -- streams and futures are as they were, what is asked of tables stays.
-use Rattle.std.proofs.Common.{◌≡◌, ◌∙◌, inl, inr, ℕ, nat_eq, Bool, true, false, ◌&&◌, if◌then◌else◌, List, slice_set, Option, Some, None, refl, sym, ap, subst}
-use Rattle.std.specs.Prelude.{Err}
+use Rattle.std.proofs.Common.{◌≡◌, ◌∙◌, inl, inr, ℕ, Bool, true, false, if◌then◌else◌, List, Option, Some, None, refl, sym, ap, subst}
 use Rattle.std.specs.List.{slice_get}
 use Rattle.std.proofs.lemmas.Bool.{cases_eq}
 use Rattle.handle_table.specs.Slots.{Slots, entry_at}
 use Rattle.handle_table.specs.Sound.{IsSound}
-use Rattle.res_handles.specs.declared.handle.Handle.{Handle}
 use Rattle.channels.specs.declared.channel.Channel.{Channel}
 use Rattle.instances.specs.declared.entry.WorldEntry.{WorldEntry}
-use Rattle.instances.specs.declared.entry.WorldEntry.TheVariants as entry
 use Rattle.instances.specs.Instances.{InstanceView}
 use Rattle.task_table.specs.declared.caller.Called.{Called}
 use Rattle.task_table.specs.declared.caller.Caller.{Caller}
 use Rattle.task_table.specs.declared.caller.Caller.TheVariants.{Nobody, Host, Guest}
-use Rattle.task_table.specs.declared.errand.Callee.{Callee}
 use Rattle.task_table.specs.declared.slot.TaskSlot.{TaskSlot}
 use Rattle.task_table.specs.Callers.{called_of}
 use Rattle.world_parts.specs.Held.{Held, Done, Gives, Traps, Spent, Stuck, after, given}
@@ -186,19 +182,19 @@ ends_behind h k q ends =
 -- So it is of what a part gives.
 abbrev pub QuietBy : {A : Type 0} → Held → Done A → Type 0
 QuietBy h (Gives x k) = Quiet h k
-QuietBy h (Traps why k) = Unit {0}
+QuietBy h (Traps why k) = Quiet h k
 QuietBy h (Spent k) = Unit {0}
 QuietBy h Stuck = Unit {0}
 
 pub quiet_through : {A : Type 0} (h k : Held) (d : Done A) → Quiet h k → QuietBy k d → QuietBy h d
 quiet_through h k (Gives x l) p q = quiet_further h k l p q
-quiet_through h k (Traps why l) p q = tt
+quiet_through h k (Traps why l) p q = quiet_further h k l p q
 quiet_through h k (Spent l) p q = tt
 quiet_through h k Stuck p q = tt
 
 pub quiet_after : {A B : Type 0} (h : Held) (d : Done A) (f : A → Held → Done B) → QuietBy h d → ((x : A) (k : Held) → QuietBy k (f x k)) → QuietBy h (after d f)
 quiet_after h (Gives x k) f p q = quiet_through h k (f x k) p (q x k)
-quiet_after h (Traps why k) f p q = tt
+quiet_after h (Traps why k) f p q = p
 quiet_after h (Spent k) f p q = tt
 quiet_after h Stuck f p q = tt
 

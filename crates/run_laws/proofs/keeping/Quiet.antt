@@ -1,5 +1,5 @@
 -- A task that enters, and one that returns, leave tables, and what is lent for calls, as they were.
-use Rattle.std.proofs.Common.{◌≡◌, ◌∙◌, ◌+◌, ◌-◌, ℕ, nat_lt, Bool, true, false, if◌then◌else◌, List, ◌++◌, ◌∷◌, [], Option, Some, None, refl, sym, ap}
+use Rattle.std.proofs.Common.{◌≡◌, ◌∙◌, ℕ, nat_lt, Bool, true, false, if◌then◌else◌, ◌++◌, ◌∷◌, [], Option, Some, None, refl, sym, ap}
 use Rattle.std.specs.Prelude.{Err}
 use Rattle.std.specs.List.{slice_get}
 use Rattle.entry_gate.specs.declared.kind.Kind.{Kind}
@@ -15,7 +15,7 @@ use Rattle.tasks.specs.Subtasks as subtasks
 use Rattle.tasks.specs.Tasks as tasks
 use Rattle.tasks.specs.Tasks.{may_happen, fault, unless}
 use Rattle.tasks.specs.Views.{TaskView}
-use Rattle.instances.specs.Instances.{InstanceView, with_gate}
+use Rattle.instances.specs.Instances.{with_gate}
 use Rattle.task_table.specs.declared.caller.Called.{Called}
 use Rattle.task_table.specs.declared.caller.Caller.{Caller}
 use Rattle.task_table.specs.declared.caller.Caller.TheVariants.{Nobody, Host, Guest}
@@ -34,17 +34,18 @@ use Rattle.world_parts.specs.Entries.{with_instance}
 use Rattle.world_parts.specs.Feed.{told}
 use Rattle.world_parts.specs.Gates.{gate_unwaited, gate_entered}
 use Rattle.world_parts.specs.Slots.{with_task, instance_of, kind_of, phase_of, happened, happens, raised, unparked}
-use Rattle.world_parts.specs.Going.{unwaited, unwaited_if, waits_to_enter, enters}
+use Rattle.world_parts.specs.Going.{unwaited_if, waits_to_enter, enters}
 use Rattle.world_parts.specs.Plain.{returned}
 use Rattle.run_laws.proofs.keeping.Alike.{guest_same, if_field, raised_alike}
-use Rattle.run_laws.proofs.keeping.Prior.{SlotPrior, QuietBy, Quiet, quiet_all, quiet_same, quiet_task, quiet_instance, quiet_after, quiet_given, quiet_if}
+use Rattle.run_laws.proofs.keeping.Prior.{QuietBy, quiet_all, quiet_same, quiet_task, quiet_instance, quiet_after, quiet_given, quiet_if}
 
 -- What happens to a task, and a state that rises.
 happened_quiet : (h : Held) (t : ℕ) (x : TaskSlot) (later : TaskView) (b : Bool) (o : Option TaskTrap) → slice_get h.tasks t ≡ Some x
     → QuietBy h (happened (if b then trapped o else Err event_error.NotNow) t (if b then slots.with_task (unless o later x.task) x else x) h)
 happened_quiet h t x later true None is =
     quiet_task h t x (slots.with_task later x) is (λ n. refl) (λ p index. refl) (record { instance = refl; callee = refl; calls = λ called e. (called, e, refl, refl, refl) })
-happened_quiet h t x later true (Some why) is = tt
+happened_quiet h t x later true (Some why) is =
+    quiet_task h t x (slots.with_task x.task x) is (λ n. refl) (λ p index. refl) (record { instance = refl; callee = refl; calls = λ called e. (called, e, refl, refl, refl) })
 happened_quiet h t x later false o is = tt
 
 pub happens_quiet : (t : ℕ) (e : TaskEvent) (h : Held) → QuietBy h (happens t e h)

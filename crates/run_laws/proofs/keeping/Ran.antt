@@ -1,6 +1,6 @@
 -- What follows what a run of a task's stack came to keeps all marks, and well what is kept.
-use Rattle.std.proofs.Common.{◌≡◌, refl, subst}
-use Rattle.std.specs.Prelude.{ℕ, Bool, true, false, if◌then◌else◌, List, [], Option, Some, None}
+use Rattle.std.proofs.Common.{refl, subst}
+use Rattle.std.specs.Prelude.{ℕ, Bool, true, false, if◌then◌else◌, List, [], Option, None}
 use Rattle.std.specs.List.{slice_get}
 use Rattle.wasm_execution.specs.declared.running.Outcome.TheVariants as outcome
 use Rattle.tasks.specs.Tasks.{is_acting}
@@ -97,6 +97,6 @@ running_marks t p (outcome.Calls number words w) h d e =
       every_after {B = Option (List ℕ) × PileView} h (called t number words h) (λ done k. Gives (None, with_top (top.Waits (record { address = number; waiting = w })) p) k) (called_marks t number words h) (λ done k. every_same k),
       well_after {B = Option (List ℕ) × PileView} h (called t number words h) (λ done k. Gives (None, with_top (top.Waits (record { address = number; waiting = w })) p) k) (called_well t number words h) (λ done k. well_same k),
     )
-running_marks t p (outcome.Trapped why) h d e = subst (λ (z : Done (Option (List ℕ) × PileView)). Both h z) (some_same e) (tt, tt)
+running_marks t p (outcome.Trapped why) h d e = subst (λ (z : Done (Option (List ℕ) × PileView)). Both h z) (some_same e) (λ marks. marks.lends, tt)
 running_marks t p (outcome.NoFuel later) h d e = subst (λ (z : Done (Option (List ℕ) × PileView)). Both h z) (some_same e) (tt, tt)
 running_marks t p outcome.Memory h d e = absurd (cc)

@@ -149,7 +149,7 @@ loop_resumed_marks t word h x is loops =
     (λ is_asked k. after (happens t event.Go k) (λ done l. after (gate_taken_back x.instance t l) (λ done m. loop_resumed_by x.instance is_asked (callback_of word) m))) is
     (at_every h (slice_get h.tasks t) x (λ z. happened (event_answer event.Go z.task) t (advanced_slot event.Go z) h)
     (λ done l. after (gate_taken_back x.instance t l) (λ done m. loop_resumed_by x.instance (is_asked x.task.cancellation) (callback_of word) m)) is
-    (acted_every h h t event.Go x (λ done l. after (gate_taken_back x.instance t l) (λ done m. loop_resumed_by x.instance (is_asked x.task.cancellation) (callback_of word) m))
+    (acted_every h h t event.Go x (λ done l. after (gate_taken_back x.instance t l) (λ done m. loop_resumed_by x.instance (is_asked x.task.cancellation) (callback_of word) m)) refl
     (λ may none.
     let l : Held = with_task t (slots.with_task (tasks.after event.Go x.task) x) h in
     look_every h (slice_get h.instances x.instance) (λ i. Gives tt (with_instance x.instance (with_gate (held_by t i.gate) i) l))

@@ -64,7 +64,7 @@ builtin_marks h t canon why x is p =
     (λ place.
     at_every h (slice_get h.tasks t) x (λ z. happened (event_answer event.Go z.task) t (advanced_slot event.Go z) h)
     (λ done m. after (errand_set t errand.None m) (λ done n. wait_resumed t x.instance canon told_so place why n)) is
-    (acted_every h h t event.Go x (λ done m. after (errand_set t errand.None m) (λ done n. wait_resumed t x.instance canon told_so place why n))
+    (acted_every h h t event.Go x (λ done m. after (errand_set t errand.None m) (λ done n. wait_resumed t x.instance canon told_so place why n)) refl
     (λ may none.
     let y : TaskSlot = slots.with_task (tasks.after event.Go x.task) x in
     let m : Held = with_task t y h in

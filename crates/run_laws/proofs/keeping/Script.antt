@@ -39,7 +39,7 @@ ending_marks t h =
     look_every h (slice_get h.tasks t) (λ x. Gives x.task.resolution h)
     (λ resolution k. if is_none resolution then Traps trap.Unresolved k else Gives flow.Rests (at_rest rest.Leaves k))
     (λ x is.
-    every_if h (is_none x.task.resolution) (Traps trap.Unresolved h) (Gives flow.Rests (at_rest rest.Leaves h)) tt (every_all h (at_rest rest.Leaves h) refl refl))
+    every_if h (is_none x.task.resolution) (Traps trap.Unresolved h) (Gives flow.Rests (at_rest rest.Leaves h)) (λ marks. marks.lends) (every_all h (at_rest rest.Leaves h) refl refl))
 
 pub returned_marks : (t : ℕ) (value : Option TypedValue) (h : Held) → KeepsMarks h (returned t value h)
 returned_marks t value h = all_by h (returned t value h) (returned_stays t value h) (returned_keeps t value h)

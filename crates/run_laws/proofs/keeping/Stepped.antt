@@ -64,7 +64,7 @@ top_all t (top.Goes k) p h d c = stack_all t k (with_top top.Empty p) h d c
 behind_all : (h : Held) (t : ℕ) (piles : List PileView) (first : Done (Option (List ℕ) × PileView)) (d : Done (Step × List PileView)) → KeepsAll h first
     → Behind first (λ r k e. e ≡ Gives (step.GoesOn (passing_behind r.0), slice_set piles t r.1) k) d → KeepsAll h d
 behind_all h t piles (Gives r k) d keeps b = is_all h d (Gives (step.GoesOn (passing_behind r.0), slice_set piles t r.1) k) b keeps
-behind_all h t piles (Traps why k) d keeps b = is_all h d (Traps why k) b (tt, tt)
+behind_all h t piles (Traps why k) d keeps b = is_all h d (Traps why k) b keeps
 behind_all h t piles (Spent k) d keeps b = is_all h d (Spent k) b (tt, tt)
 behind_all h t piles Stuck d keeps b = is_all h d Stuck b (tt, tt)
 

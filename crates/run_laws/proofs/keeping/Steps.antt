@@ -16,7 +16,7 @@ use Rattle.machine_runs.specs.declared.stepping.Step.{Step}
 use Rattle.machine_runs.specs.declared.stepping.Step.TheVariants as step
 use Rattle.machine_runs.specs.Following.{followed}
 use Rattle.machine_runs.specs.Moving.{moves, acting_of}
-use Rattle.machine_runs.specs.Stepping.{step_of_turn, turn_steps, move_steps, RestSteps, follow_steps, PassSteps, Steps}
+use Rattle.machine_runs.specs.Stepping.{step_of_turn, turn_steps, move_steps, RestSteps, follow_steps, PassSteps}
 use Rattle.machine_runs.specs.Turning.{turns}
 use Rattle.run_laws.specs.keeping.Steps.{GoesSo, PassesWell, StepKeepsAll}
 use Rattle.run_laws.specs.keeping.Stepping.{KeepsAll, OwnToHear}
@@ -101,7 +101,7 @@ behind_all : (p : Program) (piles : List PileView) (h : Held) (first : Done Flow
 behind_all p piles h (Gives f k) d keeps well plain is =
     let q : KeepsAll k d = as_all k d (follow_steps p f piles k) is (follow_all p f piles k (keeps.1 well) (plain_hears k f plain)) in
     (every_through h k d keeps.0 q.0, well_behind h k d keeps.1 q.1)
-behind_all p piles h (Traps why k) d keeps well plain is = as_all h d (Traps why k) is (tt, tt)
+behind_all p piles h (Traps why k) d keeps well plain is = as_all h d (Traps why k) is keeps
 behind_all p piles h (Spent k) d keeps well plain is = as_all h d (Spent k) is (tt, tt)
 behind_all p piles h Stuck d keeps well plain is = as_all h d Stuck is (tt, tt)
 

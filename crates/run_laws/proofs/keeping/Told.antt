@@ -179,7 +179,7 @@ behind_back h at t x called (Gives done k) is by over g from gave =
     (λ z there.
     let same : x ≡ z = some_same (sym is ∙ ap (λ (tasks : List TaskSlot). slice_get tasks t) (sym g.tasks) ∙ there) in
     told_of h k t (payload_of z.caller) (told_slot z) (subst (λ (y : TaskSlot). Keeps h (with_task t (told_slot y) k)) same (over_told h k at t x called is by over g from gave)))
-behind_back h at t x called (Traps why k) is by over g from gave = tt
+behind_back h at t x called (Traps why k) is by over g from gave = absurd g
 behind_back h at t x called (Spent k) is by over g from gave = tt
 behind_back h at t x called Stuck is by over g from gave = tt
 

@@ -57,4 +57,10 @@ pub mod EndsLifted
 pub mod EndsTaken
 pub mod EndsCome
 pub mod EndsPassed
+pub mod EndDepths
+pub mod EndsUsed
+pub mod EndsLeft
+pub mod EndsBelow
+pub mod EndSaid
+pub mod EndsOver
 pub mod EndsStep

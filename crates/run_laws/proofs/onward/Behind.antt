@@ -239,13 +239,13 @@ module _ (p : Program) (h : Held) (piles : List PileView) (w : World) (fit : IsF
 
   -- Results hold no borrow, nor do elements.
   pub value_none : (number : ℕ) → HoldsNoBorrow p (value_of p number)
-  value_none number = numbered_free p (value_of p number) (element_at g number) ((program_of p fit).types.passed number) (element_free g fit.no_borrow number)
+  value_none number = numbered_free p (value_of p number) (element_at g number) ((program_of p fit).types.passed number) (element_free g fit.fits.no_borrow number)
 
   pub result_none : (later : Held) → IsLed h later → (t : ℕ) → ResultHoldsNone p t later
   result_none later led t slot there =
       let x = led.tasks t slot there in
       let a = task_of g values s h stacks w st t x.0 x.1 in
-      result_holds_none p values s (program_of p fit) fit.no_borrow slot.callee a.0.callee (ap (λ (c : kept.Callee). callee_of g c) x.2.callee ∙ a.2.does)
+      result_holds_none p values s (program_of p fit) fit.fits.no_borrow slot.callee a.0.callee (ap (λ (c : kept.Callee). callee_of g c) x.2.callee ∙ a.2.does)
       (all_at (λ (z : Task). IsOfGraph g z.callee) w.tasks t a.0 (callees_there g values s h stacks w r.there) a.1)
 
   -- A stack ran, of a task that runs a function.

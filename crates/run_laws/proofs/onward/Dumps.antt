@@ -46,15 +46,15 @@ use Rattle.abi_machine.specs.Dump as machine
 use Rattle.standing.specs.Instances.{owned_as, EntryStands, InstStands}
 use Rattle.standing.specs.Tasks.{TaskStands}
 use Rattle.standing.specs.Stands.{Stands}
-use Rattle.standing.specs.KeptMarks.{HasMarks}
 use Rattle.standing.specs.Channels.{HasMarkedEnds}
 use Rattle.standing.proofs.Lists.{BothAt, at_both}
 use Rattle.standing.proofs.Tables.{entries_are_alike, members_at}
-use Rattle.standing.proofs.KeptMarks.{lends_are_counted}
 use Rattle.standing.proofs.Telling.{state_alike}
 use Rattle.standing.proofs.EndsFound.{EndFound, end_is_found, ref_of}
 use Rattle.standing.proofs.Delivering.{kind_is}
 use Rattle.run_laws.specs.Left.{DumpsAgree}
+use Rattle.run_laws.specs.keeping.Kept.{LendsRight}
+use Rattle.run_laws.proofs.onward.Counted.{lends_are_same}
 
 -- Lists.
 set_of : (xs : List (List ℕ)) (n : ℕ) → slice_index_or xs n [] ≡ members_in (slice_get xs n)
@@ -121,10 +121,10 @@ end_is g values s h stacks w at index k e f st =
     ∙ ap (λ (o : Option Channel). show.End (channel_by k e.number) (machine.side_of e.side) (machine.end_state (channel_end e.side o))) (sym f.there)
 
 entry_is : (g : Graph) (values : List ValType) (s : Script) (h : Held) (stacks : List (List Stack)) (w : World) (at index : ℕ) (i : InstanceView) (a : Inst) (x : WorldEntry) (y : Entry)
-    → Stands g values s h stacks w → HasMarks h → HasMarkedEnds h → slice_get h.instances at ≡ Some i → slice_get w.insts at ≡ Some a → InstStands values i a → entry_of i index ≡ Some x
+    → Stands g values s h stacks w → LendsRight h → HasMarkedEnds h → slice_get h.instances at ≡ Some i → slice_get w.insts at ≡ Some a → InstStands values i a → entry_of i index ≡ Some x
     → EntryStands values x y → kept.entry_shown x i h ≡ machine.shown_entry w at index y
 entry_is g values s h stacks w at index i a (entry.Handle x) y st m ends here there alike is same =
-    handle_is w at index x x.ownership (lends_are_counted g values s h stacks w at index i x st m here is) ∙ ap (λ (e : Entry). machine.shown_entry w at index e) (sym same)
+    handle_is w at index x x.ownership (m at index i x here is ∙ lends_are_same g values s h stacks w at index st) ∙ ap (λ (e : Entry). machine.shown_entry w at index e) (sym same)
 entry_is g values s h stacks w at index i a (entry.Subtask callee) y st m ends here there alike is same =
     ap (λ (n : ℕ). show.Subtask callee n) (task_is g s (slice_get h.tasks callee) (task_at w callee) (at_both (TaskStands g s) h.tasks w.tasks callee st.are_tasks))
     ∙ ap (λ (e : Entry). machine.shown_entry w at index e) (sym same)
@@ -137,7 +137,7 @@ entry_is g values s h stacks w at index i a (entry.End e) y st m ends here there
 -- What stands at an index, a table, and all tables.
 at_index : (g : Graph) (values : List ValType) (s : Script) (h : Held) (stacks : List (List Stack)) (w : World) (at index : ℕ) (i : InstanceView) (a : Inst) (o : Option WorldEntry)
     (p : Option Entry)
-    → Stands g values s h stacks w → HasMarks h → HasMarkedEnds h → slice_get h.instances at ≡ Some i → slice_get w.insts at ≡ Some a → InstStands values i a → entry_of i index ≡ o
+    → Stands g values s h stacks w → LendsRight h → HasMarkedEnds h → slice_get h.instances at ≡ Some i → slice_get w.insts at ≡ Some a → InstStands values i a → entry_of i index ≡ o
     → SlotAlike (EntryStands values) o p
     → option_map (λ e. (let line : LiveEntry = record { index = index; entry = kept.entry_shown e i h } in line)) o
     ≡ option_map (λ e. (let line : LiveEntry = record { index = index; entry = machine.shown_entry w at index e } in line)) p
@@ -152,7 +152,7 @@ none_shown None f h = refl
 none_shown (Some x) f h = absurd (cc)
 
 table_is : (g : Graph) (values : List ValType) (s : Script) (h : Held) (stacks : List (List Stack)) (w : World) (at : ℕ) (i : InstanceView) (a : Inst)
-    → Stands g values s h stacks w → HasMarks h → HasMarkedEnds h → slice_get h.instances at ≡ Some i → slice_get w.insts at ≡ Some a → InstStands values i a
+    → Stands g values s h stacks w → LendsRight h → HasMarkedEnds h → slice_get h.instances at ≡ Some i → slice_get w.insts at ≡ Some a → InstStands values i a
     → tables.table_shown h i ≡ machine.shown_table w at
 table_is g values s h stacks w at i a st m ends here there alike =
     let table : table_of w at ≡ a.table = ap (λ (o : Option Inst). table_in o) there in

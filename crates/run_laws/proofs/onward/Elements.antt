@@ -1,18 +1,11 @@
 -- What is asked where elements go over is so where a read or a write met an offer in a world that a run reaches.
-use Rattle.std.proofs.Common.{◌≡◌, ◌-◌, ℕ, true, is_some, List, length, sym, ap, ◌∙◌, subst, Option, Some, None}
+use Rattle.std.proofs.Common.{◌≡◌, ◌-◌, ℕ, true, is_some, List, length, sym, ap, ◌∙◌, subst, Some}
 use Rattle.std.specs.Prelude.{IsSome}
 use Rattle.std.specs.List.{slice_get}
 use Rattle.syntax_trees.specs.declared.types.ValType.{ValType}
 use Rattle.wasm_store.specs.Stack.{Stack}
-use Rattle.comp_graph.specs.declared.graph.BuiltinKind.{BuiltinKind}
-use Rattle.comp_graph.specs.declared.graph.CanonFunc.{CanonFunc}
-use Rattle.comp_graph.specs.declared.graph.CanonFunc.TheVariants as canon
-use Rattle.comp_graph.specs.Graph.{Graph, Lifted, passed_value, numbered_value}
-use Rattle.comp_graph.specs.Passed.{MayBeAt, HasCanonType}
+use Rattle.comp_graph.specs.Graph.{Graph, Lifted}
 use Rattle.script_reader.specs.Script.{Script}
-use Rattle.instances.specs.Instances.{InstanceView}
-use Rattle.graph_views.specs.Canons.{instance_of}
-use Rattle.copy_replies.specs.Moves.{element_at, value_in}
 use Rattle.programs.specs.declared.program.Program.{Program}
 use Rattle.world_parts.specs.declared.parts.Copying.{Copying}
 use Rattle.world_parts.specs.declared.parts.Flow.{Flow}
@@ -25,17 +18,14 @@ use Rattle.machine_runs.specs.Moving.{acting_of, woken}
 use Rattle.machine_runs.specs.Worlds.{handed}
 use Rattle.abi_machine.specs.Control.{Calls}
 use Rattle.abi_machine.specs.World.{World}
-use Rattle.abi_machine.specs.Canons.{canon_at}
 use Rattle.abi_machine.specs.Reading as reading
 use Rattle.abi_machine.specs.Reading.{func_of}
 use Rattle.abi_machine.specs.sound.Acting.{IsRunning}
 use Rattle.abi_machine.proofs.sound.Found.{some_same}
 use Rattle.standing.specs.Agreeing.{acting_words}
-use Rattle.standing.specs.Channels.{IsEndsType}
 use Rattle.standing.specs.Moves.{Acts}
 use Rattle.standing.specs.Stands.{Stands}
 use Rattle.standing.proofs.Changes.{acting_is_alike}
-use Rattle.standing.proofs.Lists.{BothAt, at_both}
 use Rattle.run_laws.specs.Steps.{PassesThere}
 use Rattle.run_laws.specs.Supplied.{RestsReached}
 use Rattle.run_laws.specs.SuppliedPassings.{IsBehind, IsProgramOf, ElementsSupplied}
@@ -44,6 +34,7 @@ use Rattle.run_laws.proofs.Canons.{leave_is_alike}
 use Rattle.run_laws.proofs.Reached.{none_begins, runs_so, some_func}
 use Rattle.run_laws.proofs.onward.Led.{By, CallLed, CopiesLed, calls_led}
 use Rattle.run_laws.proofs.onward.Midst.{IsTaskThen, acts_then, element_free, lends_then, memories_then, task_then}
+use Rattle.run_laws.proofs.onward.Tested.{end_typed, kept_here}
 use Rattle.run_laws.proofs.supplied.Begun.{instances_there}
 use Rattle.run_laws.proofs.supplied.Found.{slot_of}
 use Rattle.run_laws.proofs.supplied.Known.{Known, known}
@@ -58,28 +49,8 @@ module _ (p : Program) (values : List ValType) (s : Script) (h : Held) (stacks :
   st = r.there.stands
 
   -- The end at the index is of the type of the built-in.
-  typed_at : (o : Option (Option ℕ)) (c : Option CanonFunc) (type : ℕ) (f : CanonFunc) → BothAt (HasCanonType (record { funcs = prog.funcs; values = values })) o c → o ≡ Some (Some type) → c ≡ Some f
-      → HasCanonType (record { funcs = prog.funcs; values = values }) (Some type) f
-  typed_at None c type f both one other = absurd (cc)
-  typed_at (Some n) None type f both one other = absurd (cc)
-  typed_at (Some n) (Some d) type f both one other =
-      subst (λ (z : CanonFunc). HasCanonType (record { funcs = prog.funcs; values = values }) (Some type) z) (some_same other)
-      (subst (λ (z : Option ℕ). HasCanonType (record { funcs = prog.funcs; values = values }) z d) (some_same one) both)
-
   end_so : (t : ℕ) (l : CopiesLed g p.ends.now number t h later x) → HasEndOf p values (handed later) x
-  end_so t l c i e made here stands =
-      let same : canon.Builtin l.builtin ≡ c = some_same (sym l.made ∙ ap (λ (n : ℕ). canon_at g n) (sym l.called) ∙ made) in
-      let kept_here : slice_get h.instances l.builtin.instance ≡ Some i =
-      ap (λ (ls : List InstanceView). slice_get ls l.builtin.instance) (sym l.led.instances) ∙ ap (λ (d : CanonFunc). slice_get later.instances (instance_of d)) same ∙ here in
-      let of_type : e.end_type ≡ l.type = l.end i e kept_here stands in
-      let all : BothAt (HasCanonType (record { funcs = prog.funcs; values = values })) (slice_get p.ends.now number) (canon_at g number) =
-      at_both (HasCanonType (record { funcs = prog.funcs; values = values })) p.ends.now g.canons number prog.typed.canons in
-      let has : HasCanonType (record { funcs = prog.funcs; values = values }) (Some l.type) (canon.Builtin l.builtin) = typed_at (slice_get p.ends.now number) (canon_at g number) l.type (canon.Builtin l.builtin) all l.typed l.made in
-      let ends : MayBeAt values (Some l.type) (numbered_value l.builtin.kind) = has in
-      let type_is : IsEndsType values l.of_what l.element l.type = subst (λ (k : BuiltinKind). MayBeAt values (Some l.type) (numbered_value k)) l.is ends in
-      let element : element_at g x.canon ≡ l.element =
-      ap (λ (n : ℕ). element_at g n) l.called ∙ ap value_in l.made ∙ ap passed_value l.is in
-      (l.of_what, subst (λ (o : Option ValType). IsEndsType values l.of_what o e.end_type) (sym element) (subst (λ (n : ℕ). IsEndsType values l.of_what l.element n) (sym of_type) type_is))
+  end_so t l c i e made here stands = (l.of_what, end_typed p values s h number x prog later t l i e (kept_here p values s h number x prog later t l c i made here) stands)
 
   goes_over : (a : ActingTask w IsRunning) (f : Lifted) → func_of a.task.callee ≡ Some f → CopiesLed g p.ends.now number a.number h later x → PassesThere p values s (handed later) v (passing.Elements x)
   goes_over a f runs l =

@@ -21,6 +21,6 @@ pub record IsKnown (g : Graph) (w : World) : Type 0 where
 
 pub known_world : (p : Program) (w : World) → IsFit p → IsReached p.graph.now p.script.now w → IsKnown p.graph.now w
 known_world p w fit r = record {
-  worlds = worlds_are_supplied p.graph.now p.script.now r.0 w fit.runs.apart fit.no_end r.1;
-  early = λ number words c is made yet. early_calls_are_inside p.graph.now p.script.now r.0 w number words c fit.runs.apart fit.follow r.1 is made yet;
+  worlds = worlds_are_supplied p.graph.now p.script.now r.0 w fit.fits.runs.apart fit.fits.no_end r.1;
+  early = λ number words c is made yet. early_calls_are_inside p.graph.now p.script.now r.0 w number words c fit.fits.runs.apart fit.fits.follow r.1 is made yet;
 }

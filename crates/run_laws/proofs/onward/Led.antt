@@ -2,7 +2,6 @@
 -- the stream or future of an offer.
 use Rattle.std.proofs.Common.{◌≡◌, inl, inr, ◌+◌, ◌*◌, ◌%◌, ℕ, Bool, true, false, not, nat_eq, nat_le, nat_lt, if◌then◌else◌, List, [], ◌∷◌, length, refl, sym, ap, ◌∙◌, subst, Option, Some, None, Result, Ok, Err}
 use Rattle.std.specs.List.{slice_get}
-use Rattle.std.proofs.lemmas.Bool.{eqb-true}
 use Rattle.syntax_trees.specs.declared.types.ValType.{ValType}
 use Rattle.laid_types.specs.Layout.{laid}
 use Rattle.builtin_kinds.specs.declared.ContextOp.TheVariants as context_op
@@ -32,8 +31,6 @@ use Rattle.comp_graph.specs.declared.graph.Options.{Options}
 use Rattle.comp_graph.specs.Graph.{Graph}
 use Rattle.instances.specs.declared.entry.EndEntry.{EndEntry}
 use Rattle.res_handles.specs.declared.refusal.Refusal.{Refusal}
-use Rattle.res_handles.specs.declared.refusal.Refusal.TheVariants.{OtherKind, OtherType}
-use Rattle.instances.specs.declared.entry.WorldEntry.{WorldEntry}
 use Rattle.instances.specs.declared.entry.WorldEntry.TheVariants as entry
 use Rattle.instances.specs.Entries as entries
 use Rattle.instances.specs.Instances.{InstanceView, entry_of}
@@ -47,7 +44,7 @@ use Rattle.graph_views.specs.Names.{builtin_of}
 use Rattle.world_parts.specs.declared.parts.Flow.{Flow}
 use Rattle.world_parts.specs.declared.parts.Flow.TheVariants as flow
 use Rattle.world_parts.specs.Held.{Held, Done, Gives, Traps, Spent, Stuck, after, given}
-use Rattle.world_parts.specs.Channels.{answered, channel_at, channels, offered, offered_at, place_of, with_channel}
+use Rattle.world_parts.specs.Channels.{answered, channel_at, channels, numbered, offered, offered_at, place_of, with_channel}
 use Rattle.world_parts.specs.Copies.{channel_new, end_drop, copy_cancel}
 use Rattle.world_parts.specs.Entries.{end_found, named, rep_found}
 use Rattle.world_parts.specs.Feed.{acting, got}
@@ -68,7 +65,9 @@ use Rattle.world_stacks.specs.Exempt.{exempt_answer, builtin_answer}
 use Rattle.machine_runs.specs.Calling.{kind_answered, canon_answered, allowed_by, allowed, calls}
 use Rattle.machine_runs.specs.Moving.{acting_of}
 use Rattle.abi_machine.proofs.sound.Found.{some_same}
+use Rattle.standing.proofs.CopyMeetings.{SizeFits}
 use Rattle.run_laws.proofs.keeping.Sums.{set_cases, still_there}
+use Rattle.run_laws.proofs.onward.Meets.{HasMet, IsEnd, end_is, met_by_offer}
 use Rattle.run_laws.proofs.plain.Feed.{got_plain}
 use Rattle.run_laws.proofs.plain.Only.{IsPlain, PlainBy}
 use Rattle.run_laws.proofs.plain.Replying.{lowered_plain, resource_reply_plain, context_reply_plain, plain_reply_plain}
@@ -136,65 +135,100 @@ module _ (g : Graph) (types : List (Option ℕ)) (number t : ℕ) (h : Held) whe
   -- A read or a write, from there on.
   module _ (b : Builtin) (of_what : EndKind) (element : Option ValType) (op : EndOp) (made : canon_at g number ≡ Some (canon.Builtin b)) (is : b.kind ≡ kind.End of_what element op) (m : Held)
       (same_chain : m.chain ≡ h.chain) (same_rest : m.rest ≡ h.rest) (same_instances : m.instances ≡ h.instances) (same_tasks : m.tasks ≡ h.tasks) (same_memories : m.memories ≡ h.memories) (same_store : m.store ≡ h.store)
+      (same_streams : m.streams ≡ h.streams) (same_futures : m.futures ≡ h.futures)
       (late : may_leave h ≡ true) (type : ℕ) (typed : slice_get types number ≡ Some (Some type)) where
     -- What is found and tested.
-    record IsFound (c : CopyCall) : Type 0 where
+    record IsFound (c : CopyCall) (n : ℕ) : Type 0 where
       of_canon : c.canon ≡ number
       of_at : c.at ≡ b.instance
-      end : (i : InstanceView) (e : EndEntry) → slice_get h.instances b.instance ≡ Some i → entry_of i c.index ≡ Some (entry.End e) → e.end_type ≡ type
+      of_task : c.task ≡ t
+      of_kind : c.kind ≡ of_what
+      fits : SizeFits c.kind c.length
+      end : (i : InstanceView) (e : EndEntry) → slice_get h.instances b.instance ≡ Some i → entry_of i c.index ≡ Some (entry.End e) → (e.end_type ≡ type) × (e.number ≡ n) × (e.side ≡ c.side)
 
     -- An offer changes streams or futures alone.
-    with_led : (k : EndKind) (place : ℕ) (c : Channel) → IsLed h (with_channel k place c m)
-    with_led Stream place c = led_same h (with_channel Stream place c m) same_chain same_rest same_instances same_tasks
-    with_led Future place c = led_same h (with_channel Future place c m) same_chain same_rest same_instances same_tasks
+    record IsOffered (l : Held) : Type 0 where
+      led : IsLed h l
+      store : l.store ≡ h.store
+      memories : l.memories ≡ h.memories
 
-    answered_led : (o : Option Meet) (k : EndKind) (place : ℕ) (c : Channel) (x : Meet) (l : Held) → answered o k place c m ≡ Gives x l → IsLed h l
+    with_led : (k : EndKind) (place : ℕ) (c : Channel) → IsOffered (with_channel k place c m)
+    with_led Stream place c = record { led = led_same h (with_channel Stream place c m) same_chain same_rest same_instances same_tasks; store = same_store; memories = same_memories }
+    with_led Future place c = record { led = led_same h (with_channel Future place c m) same_chain same_rest same_instances same_tasks; store = same_store; memories = same_memories }
+
+    answered_led : (o : Option Meet) (k : EndKind) (place : ℕ) (c : Channel) (x : Meet) (l : Held) → answered o k place c m ≡ Gives x l → IsOffered l
     answered_led None k place c x l e = absurd (cc)
-    answered_led (Some y) k place c x l e = subst (λ (z : Held). IsLed h z) (gives_held e) (with_led k place c)
+    answered_led (Some y) k place c x l e = subst (λ (z : Held). IsOffered z) (gives_held e) (with_led k place c)
 
-    offered_led : (c : CopyCall) (n : ℕ) (x : Meet) (l : Held) → offered c.kind c.side n (by.Task c.task) c.canon c.place c.length m ≡ Gives x l → IsLed h l
+    offered_led : (c : CopyCall) (n : ℕ) (x : Meet) (l : Held) → offered c.kind c.side n (by.Task c.task) c.canon c.place c.length m ≡ Gives x l → IsOffered l
     offered_led c n x l e = by_place (place_of n) e
       where
         by_channel : (o : Option Channel) (place : ℕ)
             → (let d : Done Meet = given o (λ y. answered (if may_offer c.side c.length y.ends then Some (meet_in c.side (by.Task c.task) c.canon c.place c.length y.ends) else None) c.kind place
-            (if may_offer c.side c.length y.ends then with_ends (channel.offered c.side (by.Task c.task) c.canon c.place c.length y.ends) y else y) m) in d) ≡ Gives x l → IsLed h l
+            (if may_offer c.side c.length y.ends then with_ends (channel.offered c.side (by.Task c.task) c.canon c.place c.length y.ends) y else y) m) in d) ≡ Gives x l → IsOffered l
         by_channel None place e = absurd (cc)
         by_channel (Some y) place e =
             answered_led (if may_offer c.side c.length y.ends then Some (meet_in c.side (by.Task c.task) c.canon c.place c.length y.ends) else None) c.kind place
             (if may_offer c.side c.length y.ends then with_ends (channel.offered c.side (by.Task c.task) c.canon c.place c.length y.ends) y else y) x l e
 
-        by_place : (o : Option ℕ) → (let d : Done Meet = given o (λ place. offered_at c.kind place c.side (by.Task c.task) c.canon c.place c.length m) in d) ≡ Gives x l → IsLed h l
+        by_place : (o : Option ℕ) → (let d : Done Meet = given o (λ place. offered_at c.kind place c.side (by.Task c.task) c.canon c.place c.length m) in d) ≡ Gives x l → IsOffered l
         by_place None e = absurd (cc)
         by_place (Some place) e = by_channel (slice_get (channels c.kind m) place) place e
 
-    met_led : (c : CopyCall) (n : ℕ) (x : Meet) (l : Held) → IsFound c → placed_well (element_at g number) (memory_of ((ends.seen g).options number) h) c.place c.length h ≡ Gives tt h → IsLed h l
-        → By P (met (ends.seen g) c n x l)
-    met_led c n meet.Stands l f placed led = by_plain (offer_stands (ends.seen g) c n l) (stands_plain (ends.seen g) c n l)
-    met_led c n (meet.Copies count) l f placed led = record {
-      builtin = b;
-      of_what = of_what;
-      element = element;
-      op = op;
-      made = made;
-      is = is;
-      type = type;
-      typed = typed;
-      called = f.of_canon;
-      late = late;
-      end = f.end;
-      placed = placed;
-      led = led;
-    }
-    met_led c n meet.Dropped l f placed led = by_plain (answered_at_once c n 1 l) (at_once_plain c n 1 l)
-    met_led c n meet.Displaces l f placed led = by_plain (offer_stands (ends.seen g) c n l) (stands_plain (ends.seen g) c n l)
-    met_led c n meet.ZeroDone l f placed led = by_plain (answered_at_once c n 0 l) (at_once_plain c n 0 l)
-    met_led c n meet.NothingNow l f placed led = by_plain (answered_at_once c n 0 l) (at_once_plain c n 0 l)
+    -- What was met, from what is kept before the line of the call.
+    channel_before : (k : EndKind) (n : ℕ) → channel_at k n m ≡ channel_at k n h
+    channel_before Stream n = ap (λ (all : List Channel). numbered all n) same_streams
+    channel_before Future n = ap (λ (all : List Channel). numbered all n) same_futures
 
-    meets_led : (c : CopyCall) (n : ℕ) → IsFound c → placed_well (element_at g number) (memory_of ((ends.seen g).options number) h) c.place c.length h ≡ Gives tt h → By P (meets (ends.seen g) c n m)
+    met_at : (c : CopyCall) (n count : ℕ) (l : Held) → IsFound c n → offered c.kind c.side n (by.Task c.task) c.canon c.place c.length m ≡ Gives (meet.Copies count) l
+        → HasMet c.side t number c.place c.length count (channel_at of_what n h) (channel_at of_what n l)
+    met_at c n count l f e =
+        let found : HasMet c.side c.task c.canon c.place c.length count (channel_at c.kind n m) (channel_at c.kind n l) = met_by_offer c.kind c.side n c.task c.canon c.place c.length count m l e in
+        let by_kind : HasMet c.side c.task c.canon c.place c.length count (channel_at of_what n m) (channel_at of_what n l) =
+        subst (λ (k : EndKind). HasMet c.side c.task c.canon c.place c.length count (channel_at k n m) (channel_at k n l)) f.of_kind found in
+        let by_task : HasMet c.side t c.canon c.place c.length count (channel_at of_what n m) (channel_at of_what n l) =
+        subst (λ (who : ℕ). HasMet c.side who c.canon c.place c.length count (channel_at of_what n m) (channel_at of_what n l)) f.of_task by_kind in
+        let by_canon : HasMet c.side t number c.place c.length count (channel_at of_what n m) (channel_at of_what n l) =
+        subst (λ (d : ℕ). HasMet c.side t d c.place c.length count (channel_at of_what n m) (channel_at of_what n l)) f.of_canon by_task in
+        subst (λ (o : Option Channel). HasMet c.side t number c.place c.length count o (channel_at of_what n l)) (channel_before of_what n) by_canon
+
+    met_led : (c : CopyCall) (n : ℕ) (x : Meet) (l : Held) → IsFound c n → placed_well (element_at g number) (memory_of ((ends.seen g).options number) h) c.place c.length h ≡ Gives tt h
+        → offered c.kind c.side n (by.Task c.task) c.canon c.place c.length m ≡ Gives x l → By P (met (ends.seen g) c n x l)
+    met_led c n meet.Stands l f placed e = by_plain (offer_stands (ends.seen g) c n l) (stands_plain (ends.seen g) c n l)
+    met_led c n (meet.Copies count) l f placed e =
+        let o : IsOffered l = offered_led c n (meet.Copies count) l e in
+        record {
+          builtin = b;
+          of_what = of_what;
+          element = element;
+          op = op;
+          made = made;
+          is = is;
+          type = type;
+          typed = typed;
+          called = f.of_canon;
+          late = late;
+          end = λ i x here stands. (f.end i x here stands).0;
+          placed = placed;
+          led = o.led;
+          store = o.store;
+          memories = o.memories;
+          fits = subst (λ (k : EndKind). SizeFits k c.length) f.of_kind f.fits;
+          met = λ i x here stands. (
+              let all = f.end i x here stands in
+              subst (λ (s : Side). HasMet s t number c.place c.length count (channel_at of_what x.number h) (channel_at of_what x.number l)) (sym all.2)
+              (subst (λ (k : ℕ). HasMet c.side t number c.place c.length count (channel_at of_what k h) (channel_at of_what k l)) (sym all.1) (met_at c n count l f e))
+              );
+        }
+    met_led c n meet.Dropped l f placed e = by_plain (answered_at_once c n 1 l) (at_once_plain c n 1 l)
+    met_led c n meet.Displaces l f placed e = by_plain (offer_stands (ends.seen g) c n l) (stands_plain (ends.seen g) c n l)
+    met_led c n meet.ZeroDone l f placed e = by_plain (answered_at_once c n 0 l) (at_once_plain c n 0 l)
+    met_led c n meet.NothingNow l f placed e = by_plain (answered_at_once c n 0 l) (at_once_plain c n 0 l)
+
+    meets_led : (c : CopyCall) (n : ℕ) → IsFound c n → placed_well (element_at g number) (memory_of ((ends.seen g).options number) h) c.place c.length h ≡ Gives tt h → By P (meets (ends.seen g) c n m)
     unfolding meets
     meets_led c n f placed =
-        by_after P (offered c.kind c.side n (by.Task c.task) c.canon c.place c.length m) (λ x k. met (ends.seen g) c n x k)
-        (λ x k e. met_led c n x k f placed (offered_led c n x k e))
+        by_after P (offered c.kind c.side n (by.Task c.task) c.canon c.place c.length m) (λ x k. met (ends.seen g) c n x k) (λ x k e. met_led c n x k f placed e)
 
     -- The tests of places change nothing.
     placed_same : (o : Option ValType) (memory : Option ℕ) (place count : ℕ) (x y : Held) (done : Unit {0}) (l : Held) → y.store ≡ x.store → placed_well o memory place count x ≡ Gives done l
@@ -212,7 +246,7 @@ module _ (g : Graph) (types : List (Option ℕ)) (number t : ℕ) (h : Held) whe
         by_test false false true d same e = absurd (cc)
         by_test false false false d same e = (sym (gives_held e), ap (λ (z : Bool). (let d : Done (Unit {0}) = if z then Traps trap.Bounds y else Gives tt y in d)) same)
 
-    placed_led : (c : CopyCall) (n : ℕ) (is_inside : Bool) → IsFound c → By P (placed_and_met (ends.seen g) (element_at g number) c n is_inside m)
+    placed_led : (c : CopyCall) (n : ℕ) (is_inside : Bool) → IsFound c n → By P (placed_and_met (ends.seen g) (element_at g number) c n is_inside m)
     unfolding placed_and_met
     placed_led c n is_inside f =
         by_after P (placed_well (element_at g number) (memory_of ((ends.seen g).options c.canon) m) c.place c.length m) (λ done k. if is_inside then Traps trap.SameInstance k else meets (ends.seen g) c n k)
@@ -225,7 +259,7 @@ module _ (g : Graph) (types : List (Option ℕ)) (number t : ℕ) (h : Held) whe
         (λ outside. meets_led c n f (subst (λ (o : Option ℕ). placed_well (element_at g number) o c.place c.length h ≡ Gives tt h) memory both.1)))
         ))
 
-    copy_led : (c : CopyCall) (n : ℕ) (channel : Channel) → IsFound c → By P (copy_tested (ends.seen g) (element_at g number) c n channel m)
+    copy_led : (c : CopyCall) (n : ℕ) (channel : Channel) → IsFound c n → By P (copy_tested (ends.seen g) (element_at g number) c n channel m)
     copy_led c n channel f =
         let place : Done Flow = placed_and_met (ends.seen g) (element_at g number) c n (is_within (ends.seen g) c.at c.side (element_at g number) channel.ends) m in
         by_if P (is_copying (end_in c.side channel.ends)) (Traps trap.Busy m)
@@ -236,30 +270,9 @@ module _ (g : Graph) (types : List (Option ℕ)) (number t : ℕ) (h : Held) whe
         by_if P (nat_lt most_elements c.length) (Traps trap.TooLong m) place (λ long. tt)
         (λ short. placed_led c n (is_within (ends.seen g) c.at c.side (element_at g number) channel.ends) f)))
 
-    -- The end that is found is of the type.
-    typed_so : (wanted : ℕ) (x y : EndEntry) → entries.typed_end wanted x ≡ Ok y → x.end_type ≡ wanted
-    typed_so wanted x y e = by_test (entries.is_of_type wanted x) refl e
-      where
-        by_test : (b : Bool) → entries.is_of_type wanted x ≡ b → ◌≡◌ {A = Result EndEntry Refusal} (if b then Ok x else Err OtherType) (Ok y) → x.end_type ≡ wanted
-        by_test true same e = eqb-true x.end_type wanted same
-        by_test false same e = absurd (cc)
-
-    end_same : (x y : EndEntry) → Some (entry.End x) ≡ Some (entry.End y) → x ≡ y
-    end_same x y e = cc
-
-    end_is : (side : Side) (wanted : ℕ) (o : Option WorldEntry) (x y : EndEntry) → entries.end_in side wanted o ≡ Ok y → o ≡ Some (entry.End x) → x.end_type ≡ wanted
-    end_is side wanted None x y found stands = absurd (cc)
-    end_is side wanted (Some (entry.Handle z)) x y found stands = absurd (cc)
-    end_is side wanted (Some (entry.Subtask callee)) x y found stands = absurd (cc)
-    end_is side wanted (Some (entry.Set set)) x y found stands = absurd (cc)
-    end_is side wanted (Some (entry.End z)) x y found stands = by_side (entries.same_side z.side side) found
-      where
-        by_side : (b : Bool) → ◌≡◌ {A = Result EndEntry Refusal} (if b then entries.typed_end wanted z else Err OtherKind) (Ok y) → x.end_type ≡ wanted
-        by_side true e = ap (λ (v : EndEntry). v.end_type) (sym (end_same z x stands)) ∙ typed_so wanted z y e
-        by_side false e = absurd (cc)
-
+    -- The end that is found is of the type and the side.
     end_gives : (at : ℕ) (side : Side) (wanted index : ℕ) (y : EndEntry) (l : Held) → end_found at side wanted index m ≡ Gives y l
-        → (l ≡ m) × ((i : InstanceView) (x : EndEntry) → slice_get m.instances at ≡ Some i → entry_of i index ≡ Some (entry.End x) → x.end_type ≡ wanted)
+        → (l ≡ m) × ((i : InstanceView) (x : EndEntry) → slice_get m.instances at ≡ Some i → entry_of i index ≡ Some (entry.End x) → IsEnd side wanted x y)
     end_gives at side wanted index y l e = by_instance (slice_get m.instances at) refl e
       where
         by_result : (r : Result EndEntry Refusal) → named r m ≡ Gives y l → (l ≡ m) × (r ≡ Ok y)
@@ -267,7 +280,7 @@ module _ (g : Graph) (types : List (Option ℕ)) (number t : ℕ) (h : Held) whe
         by_result (Err why) e = absurd (cc)
 
         by_instance : (o : Option InstanceView) → slice_get m.instances at ≡ o → (let d : Done EndEntry = given o (λ i. named (entries.end_in side wanted (entry_of i index)) m) in d) ≡ Gives y l
-            → (l ≡ m) × ((i : InstanceView) (x : EndEntry) → slice_get m.instances at ≡ Some i → entry_of i index ≡ Some (entry.End x) → x.end_type ≡ wanted)
+            → (l ≡ m) × ((i : InstanceView) (x : EndEntry) → slice_get m.instances at ≡ Some i → entry_of i index ≡ Some (entry.End x) → IsEnd side wanted x y)
         by_instance None here e = absurd (cc)
         by_instance (Some j) here e =
             let both = by_result (entries.end_in side wanted (entry_of j index)) e in (
@@ -275,17 +288,28 @@ module _ (g : Graph) (types : List (Option ℕ)) (number t : ℕ) (h : Held) whe
               λ i x at_i stands. end_is side wanted (entry_of j index) x y both.1 (ap (λ (z : InstanceView). entry_of z index) (some_same (sym here ∙ at_i)) ∙ stands),
             )
 
-    read_led : (side : Side) (index place count : ℕ) → By P (read_or_write (ends.seen g) (element_at g number) (call_of t b.instance number of_what side type index place count) m)
+    read_led : (side : Side) (index place count : ℕ) → SizeFits of_what count → By P (read_or_write (ends.seen g) (element_at g number) (call_of t b.instance number of_what side type index place count) m)
     unfolding read_or_write
-    read_led side index place count =
+    read_led side index place count fits =
         let c : CopyCall = call_of t b.instance number of_what side type index place count in
         by_after P (end_found b.instance side type index m) (λ e k. given (channel_at of_what e.number k) (λ channel. copy_tested (ends.seen g) (element_at g number) c e.number channel k))
         (λ e k found. (
         let both = end_gives b.instance side type index e k found in
-        let f : IsFound c = record { of_canon = refl; of_at = refl; end = λ i x here stands. both.1 i x (ap (λ (l : List InstanceView). slice_get l b.instance) same_instances ∙ here) stands } in
+        let f : IsFound c e.number = record {
+          of_canon = refl;
+          of_at = refl;
+          of_task = refl;
+          of_kind = refl;
+          fits = fits;
+          end = λ i x here stands. both.1 i x (ap (λ (l : List InstanceView). slice_get l b.instance) same_instances ∙ here) stands;
+        } in
         subst (λ (z : Held). By P (let d : Done Flow = given (channel_at of_what e.number z) (λ channel. copy_tested (ends.seen g) (element_at g number) c e.number channel z) in d)) (sym both.0)
         (by_given P (channel_at of_what e.number m) (λ channel. copy_tested (ends.seen g) (element_at g number) c e.number channel m) (λ channel at_number. copy_led c e.number channel f))
         ))
+
+    length_fits : (k : EndKind) (words : List ℕ) (count : ℕ) → length_in k words ≡ Some count → SizeFits k count
+    length_fits Stream words count e = tt
+    length_fits Future words count e = sym (some_same e)
 
     asked_led : (side : Side) (words : List ℕ) → By P (copy_asked (ends.seen g) (element_at g number) t b.instance number of_what side type words m)
     unfolding copy_asked
@@ -296,7 +320,7 @@ module _ (g : Graph) (types : List (Option ℕ)) (number t : ℕ) (h : Held) whe
         by_given P (word_in words 1) (λ place. given (length_in of_what words) (λ count. read_or_write (ends.seen g) (element_at g number) (call_of t b.instance number of_what side type index place count) m))
         (λ place second.
         by_given P (length_in of_what words) (λ count. read_or_write (ends.seen g) (element_at g number) (call_of t b.instance number of_what side type index place count) m)
-        (λ count third. read_led side index place count)))
+        (λ count third. read_led side index place count (length_fits of_what words count third))))
 
     op_led : (o : EndOp) (words : List ℕ) → By P (op_reply g (element_at g number) t b.instance number of_what type o words m)
     op_led end_op.New words = by_plain (channel_new t b.instance of_what type m) (new_plain t b.instance of_what type m)
@@ -313,6 +337,8 @@ module _ (g : Graph) (types : List (Option ℕ)) (number t : ℕ) (h : Held) whe
     tasks : m.tasks ≡ h.tasks
     memories : m.memories ≡ h.memories
     store : m.store ≡ h.store
+    streams : m.streams ≡ h.streams
+    futures : m.futures ≡ h.futures
 
   end_led : (b : Builtin) (of_what : EndKind) (element : Option ValType) (op : EndOp) (words : List ℕ) (m : Held) → canon_at g number ≡ Some (canon.Builtin b) → b.kind ≡ kind.End of_what element op → IsLined m
       → may_leave h ≡ true → By P (kind_reply g types (element_at g number) t b.instance number (kind.End of_what element op) words m)
@@ -321,7 +347,7 @@ module _ (g : Graph) (types : List (Option ℕ)) (number t : ℕ) (h : Held) whe
       (λ known at_number.
       by_given P known (λ type. op_reply g (element_at g number) t b.instance number of_what type op words m)
       (λ type numbered.
-      op_led b of_what element op made is m l.chain l.rest l.instances l.tasks l.memories l.store late type (at_number ∙ ap (λ (o : Option ℕ). Some o) numbered) op words))
+      op_led b of_what element op made is m l.chain l.rest l.instances l.tasks l.memories l.store l.streams l.futures late type (at_number ∙ ap (λ (o : Option ℕ). Some o) numbered) op words))
 
   -- All canonical functions, by their kinds.
   reply_plain : (b : Builtin) (k : BuiltinKind) (words : List ℕ) (m : Held) → b.kind ≡ k → PlainBy (builtin_reply g t b.instance number k words m) → By P (whole.answered g t number (canon.Builtin b) words m)
@@ -422,6 +448,8 @@ calls_led g types number h =
       tasks = ap (λ (z : Held). z.tasks) lines ∙ ap (λ (z : Held). z.tasks) same;
       memories = ap (λ (z : Held). z.memories) lines ∙ ap (λ (z : Held). z.memories) same;
       store = ap (λ (z : Held). z.store) lines ∙ ap (λ (z : Held). z.store) same;
+      streams = ap (λ (z : Held). z.streams) lines ∙ ap (λ (z : Held). z.streams) same;
+      futures = ap (λ (z : Held). z.futures) lines ∙ ap (λ (z : Held). z.futures) same;
     } in
     more_by (LedTo g types number t h) (CallLed g types number h) (λ x z led. (t, a.0, led)) (allowed g types t number c words m) (allowed_led g types number t h c words m made is)
     ))))

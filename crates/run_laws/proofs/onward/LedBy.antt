@@ -50,6 +50,8 @@ use Rattle.copy_replies.specs.Moves.{element_at}
 use Rattle.copy_replies.specs.Seen as ends
 use Rattle.replies.specs.Replies.{may_leave}
 use Rattle.machine_runs.specs.Moving.{acting_of}
+use Rattle.standing.proofs.CopyMeetings.{SizeFits}
+use Rattle.run_laws.proofs.onward.Meets.{HasMet}
 use Rattle.run_laws.proofs.plain.Calls.{blocked_in_plain}
 use Rattle.run_laws.proofs.plain.Feed.{got_plain}
 use Rattle.run_laws.proofs.plain.Only.{PlainBy, plain_after, plain_given, plain_if}
@@ -120,7 +122,7 @@ pub record ReturnsLed (g : Graph) (number t : ℕ) (h k : Held) : Type 0 where
   pub asked : IsAsked t h
   pub led : IsLed h k
 
--- Elements go over from the end at an index, which is of the type of the built-in's ends.
+-- Elements go over from the end at an index, which is of the type of the built-in's ends, and where an offer was met. No memory changes.
 pub record CopiesLed (g : Graph) (types : List (Option ℕ)) (number t : ℕ) (h k : Held) (x : Copying) : Type 0 where
   pub builtin : Builtin
   pub of_what : EndKind
@@ -135,6 +137,11 @@ pub record CopiesLed (g : Graph) (types : List (Option ℕ)) (number t : ℕ) (h
   pub end : (i : InstanceView) (e : EndEntry) → slice_get h.instances builtin.instance ≡ Some i → entry_of i x.index ≡ Some (entry.End e) → e.end_type ≡ type
   pub placed : placed_well (element_at g number) (memory_of ((ends.seen g).options number) h) x.place x.length h ≡ Gives tt h
   pub led : IsLed h k
+  pub store : k.store ≡ h.store
+  pub memories : k.memories ≡ h.memories
+  pub fits : SizeFits of_what x.length
+  pub met : (i : InstanceView) (e : EndEntry) → slice_get h.instances builtin.instance ≡ Some i → entry_of i x.index ≡ Some (entry.End e)
+      → HasMet e.side t number x.place x.length x.count (channel_at of_what e.number h) (channel_at of_what e.number k)
 
 abbrev pub LedTo : Graph → List (Option ℕ) → ℕ → ℕ → Held → Flow → Held → Type 0
 LedTo g types number t h (flow.Now words) k = Unit {0}

@@ -214,7 +214,7 @@ module _ (p : Program) (h : Held) (piles : List PileView) (w : World) (fit : IsF
   none_runs number is t slot there =
       let a = task_of g values s h stacks w st t slot there in
       by_func slot a.0 a.2 (func_of a.0.callee) refl
-      (λ some. (let clash : false ≡ true = sym (not_late number is) ∙ late_runs g values s h stacks w r.there fit.begin t a.0 a.1 some (may_leave w) refl in let wrong : ⊥ = cc in wrong))
+      (λ some. (let clash : false ≡ true = sym (not_late number is) ∙ late_runs g values s h stacks w r.there fit.fits.begin t a.0 a.1 some (may_leave w) refl in let wrong : ⊥ = cc in wrong))
     where
       not_both : (a b : Bool) → (a && b) ≡ false → b ≡ true → a ≡ false
       not_both true b e f = sym f ∙ e

@@ -51,8 +51,8 @@ use Rattle.run_laws.proofs.onward.Fitting.{types_fit}
 -- A program that is made of a graph and a script that fit is of them.
 pub program_of : (p : Program) → IsFit p → IsProgramOf p p.types.now p.script.now
 program_of p fit =
-    let both : PassesFor p p.types.now p.script.now × NumbersTypes p p.types.now = programs_pass p.graph.now p.script.now p fit.made fit.runs.script in
-    record { funcs = fit.made.funcs; typed = (types_fit p fit); fits = both.0; types = both.1; first = runnable_graphs_name_first p.graph.now p.script.now fit.runs; begin = fit.begin }
+    let both : PassesFor p p.types.now p.script.now × NumbersTypes p p.types.now = programs_pass p.graph.now p.script.now p fit.made fit.fits.runs.script in
+    record { funcs = fit.made.funcs; typed = (types_fit p fit); fits = both.0; types = both.1; first = runnable_graphs_name_first p.graph.now p.script.now fit.fits.runs; begin = fit.fits.begin }
 
 -- The functions that tasks run are the graph's.
 callees_from : (g : Graph) (s : Script) (steps : List (List Label)) (w v : World) → IsApart g → IsStanding g s w → HaveCallees g w.tasks → Reaches g s w steps v → HaveCallees g v.tasks
@@ -78,32 +78,32 @@ module _ (p : Program) (h : Held) (piles : List PileView) (w : World) (fit : IsF
   stacks = stacks_at piles
 
   pub stands_reached : StandsReached g values s h stacks w
-  stands_reached = record { apart = fit.runs.apart; no_borrow = fit.no_borrow; no_end = fit.no_end; steps = reached.0; reached = reached.1; stands = at.stands }
+  stands_reached = record { apart = fit.fits.runs.apart; no_borrow = fit.fits.no_borrow; no_end = fit.fits.no_end; steps = reached.0; reached = reached.1; stands = at.stands }
 
   pub rests_reached : RestsReached p values s h stacks w
   rests_reached = record { there = stands_reached; marks = right.marks; ends = right.ends; control = at.control }
 
   pub insts_there : InstancesThere w
-  insts_there = instances_there g values s h stacks w stands_reached fit.begin
+  insts_there = instances_there g values s h stacks w stands_reached fit.fits.begin
 
   pub canon_memories : (number : ℕ) → HasMemory h w (options_at g number)
-  canon_memories number = memories_are_named g values s h stacks w (options_at g number) at.stands (memories_are_first h right.memories) ((runnable_graphs_name_first p.graph.now p.script.now fit.runs).canons number)
+  canon_memories number = memories_are_named g values s h stacks w (options_at g number) at.stands (memories_are_first h right.memories) ((runnable_graphs_name_first p.graph.now p.script.now fit.fits.runs).canons number)
 
   pub memories_named : MemoriesNamed g h w
   memories_named = record {
     canons = canon_memories;
     functions = λ t task f there runs. (
         memories_are_named g values s h stacks w f.options at.stands (memories_are_first h right.memories)
-        ((runnable_graphs_name_first p.graph.now p.script.now fit.runs).functions task.callee f (all_at (λ (x : Task). IsOfGraph g x.callee) w.tasks t task (callees_there g values s h stacks w stands_reached) there) runs)
+        ((runnable_graphs_name_first p.graph.now p.script.now fit.fits.runs).functions task.callee f (all_at (λ (x : Task). IsOfGraph g x.callee) w.tasks t task (callees_there g values s h stacks w stands_reached) there) runs)
         );
   }
 
   -- The world is typed, whether all is instantiated or not, so that core code calls a canonical function that is there.
   pub typed_world : ReachedAreTyped → may_leave w ≡ true → IsTypedWorld g w
-  typed_world typed late = typed_now g h w at.control (typed g s reached.0 w fit.runs reached.1 late)
+  typed_world typed late = typed_now g h w at.control (typed g s reached.0 w fit.fits.runs reached.1 late)
 
   starting : StartsTyped → may_leave w ≡ false → IsTyped g w
-  starting starts yet = elim (starts g s reached.0 w fit.runs reached.1 yet) [
+  starting starts yet = elim (starts g s reached.0 w fit.fits.runs reached.1 yet) [
     | inl doomed ↦ absurd (not_doomed (acting_words h) h.rest (subst IsDoomed at.control doomed))
     | inr typed ↦ typed.0
   ]
@@ -140,11 +140,11 @@ module _ (p : Program) (h : Held) (piles : List PileView) (w : World) (fit : IsF
         )
 
     moves_by : (r : Rest) → h.rest ≡ r → MoveLeft p values h w r → MayMove p values s h w
-    moves_by r is left = fitting_moves passes typed p values s h stacks w fit.runs fit.begin rests_reached (subst (λ (x : Rest). MoveLeft p values h w x) (sym is) left)
+    moves_by r is left = fitting_moves passes typed p values s h stacks w fit.fits.runs fit.fits.begin rests_reached (subst (λ (x : Rest). MoveLeft p values h w x) (sym is) left)
 
     may_turn : h.rest ≡ rest.Free → MayTurn p values s h piles w
     may_turn is =
-        turns_may_come p values s h piles w (programs_are_named g s p fit.made fit.runs.script) reached (rests p values s h stacks w rest.Free rests_reached is) at.stands right.marks right.lists
+        turns_may_come p values s h piles w (programs_are_named g s p fit.made fit.fits.runs.script) reached (rests p values s h stacks w rest.Free rests_reached is) at.stands right.marks right.lists
         (record { instances = insts_there; copies = known.worlds.copies; ends = right.ends })
 
     rests_by : (r : Rest) → h.rest ≡ r → RestWell p values s h piles w r

@@ -1,4 +1,4 @@
--- What is carried from point to point of a run: the first point has it, it gives all that is asked of a step, each step leaves it, and so each run is the machine's.
+-- What is carried from point to point of a run: the first point has it, it gives all that is fit of a step, each step leaves it, and so each run is the machine's.
 use Rattle.std.proofs.Common.{◌≡◌, ◌⊎◌, inl, inr, ℕ, zero, suc, List, [], ◌∷◌, ◌++◌, refl, sym, ap, ◌∙◌, subst, Option, Some}
 use Rattle.std.specs.List.{slice_get}
 use Rattle.syntax_trees.specs.declared.types.ValType.{ValType}
@@ -6,10 +6,13 @@ use Rattle.wasm_store.specs.Stack.{Stack}
 use Rattle.entry_gate.specs.declared.kind.Kind.{Kind}
 use Rattle.entry_gate.specs.declared.kind.Kind.TheVariants.{Sync, Callback, Stackful}
 use Rattle.comp_graph.specs.Graph.{Graph}
+use Rattle.comp_graph.specs.Passed.{MayBeAt}
+use Rattle.copy_replies.specs.Moves.{element_at}
 use Rattle.script_reader.specs.Script.{Script}
 use Rattle.trace_labels.specs.declared.label.Label.{Label}
 use Rattle.task_table.specs.declared.slot.TaskSlot.{TaskSlot}
 use Rattle.programs.specs.declared.program.Program.{Program}
+use Rattle.programs.specs.Program.{value_of}
 use Rattle.world_parts.specs.declared.parts.Copying.{Copying}
 use Rattle.world_parts.specs.declared.parts.Flow.{Flow}
 use Rattle.world_parts.specs.declared.parts.Flow.TheVariants as flow
@@ -36,11 +39,11 @@ use Rattle.abi_machine.specs.World.{World, first_world}
 use Rattle.abi_machine.specs.Canons.{options_at}
 use Rattle.abi_machine.specs.Run.{lines_of}
 use Rattle.abi_machine.proofs.sound.Found.{some_same}
-use Rattle.reach_laws.specs.Reached.{CodePassesWords, ReachedAreTyped, StartsTyped}
+use Rattle.reach_laws.specs.Reached.{CodePassesWords, ReachedAreTyped, ReachedStandInside, StartsTyped}
 use Rattle.standing.specs.Channels.{HasMarkedEnds}
 use Rattle.standing.specs.Stands.{Stands}
 use Rattle.standing.proofs.KeptMarks.{first_is_marked}
-use Rattle.run_laws.specs.Carried.{HasCome, IsRight, ComesFrom, IsCarried, IsFit, IsAsked, CarriedStepsSo, CarriedMayStep, FirstIsCarried, RunsAreOfMachine, StepsCarry}
+use Rattle.run_laws.specs.Carried.{HasCome, IsRight, ComesFrom, IsCarried, IsFit, CarriedStepsSo, CarriedMayStep, FirstIsCarried, RunsAreOfMachine, StepsCarry}
 use Rattle.run_laws.specs.Left.{RunsLeaveWorlds}
 use Rattle.run_laws.specs.Passings.{EntersWell}
 use Rattle.run_laws.specs.Points.{AtRest, InPassing, ReachesPoint, stacks_at}
@@ -49,7 +52,7 @@ use Rattle.run_laws.specs.Steps.{IsReached, MayStep, PassesThere, RestWell}
 use Rattle.run_laws.specs.Supplied.{DestructorsPassReps, MayArrive, PlacesAreKept, RestsReached}
 use Rattle.run_laws.specs.SuppliedPassings.{IsBehind, IsProgramOf}
 use Rattle.run_laws.specs.Whole.{LeavesWorld, start_of}
-use Rattle.run_laws.specs.Transfers.{HasTestedPlace}
+use Rattle.run_laws.specs.Transfers.{HasEndOf}
 use Rattle.run_laws.specs.keeping.Kept.{RunsFunction}
 use Rattle.run_laws.specs.keeping.Passings.{EndsBy as EndsByKind, EntersSo, PassesSo, ReturnsSo}
 use Rattle.run_laws.specs.keeping.Stepping.{KeepsAll}
@@ -61,7 +64,7 @@ use Rattle.run_laws.proofs.Steps.{step_is_made}
 use Rattle.run_laws.proofs.Whole.{Arrives, OfMachine, first_arrives, in_handed, last_agrees, lines_on, reaches_on, rejoined}
 use Rattle.run_laws.proofs.keeping.Sound.{tables_are_sound}
 use Rattle.run_laws.proofs.keeping.Steps.{step_keeps_all}
-use Rattle.run_laws.proofs.keeping.still.EndsStep.{passing_keeps_ends, scripts_pass_none}
+use Rattle.run_laws.proofs.keeping.still.EndsStep.{passing_keeps_ends, elements_keep_ends, scripts_pass_none}
 use Rattle.run_laws.proofs.keeping.still.AloneLent.{handles_are_alone_lent}
 use Rattle.run_laws.proofs.keeping.still.Kinds.{ends_stand_kept, types_tell_kinds}
 use Rattle.run_laws.proofs.keeping.still.Passing.{move_keeps_lent}
@@ -81,6 +84,7 @@ use Rattle.run_laws.proofs.onward.Moving.{goes_so}
 use Rattle.run_laws.proofs.onward.Ran.{HasEnded, has_ended}
 use Rattle.run_laws.proofs.onward.Resting.{insts_there, memories_named, program_of, rests_reached, rests_well}
 use Rattle.run_laws.proofs.onward.Returned.{returned_supplied}
+use Rattle.run_laws.proofs.onward.Tested.{places_supplied}
 use Rattle.run_laws.proofs.supplied.Arguments.{arguments_supplied, same_kept}
 use Rattle.run_laws.proofs.supplied.Hears.{memory_alike}
 use Rattle.run_laws.proofs.well.Woken.{first_well}
@@ -162,7 +166,7 @@ ends_moved p fit piles more h later x taken =
 abbrev point : Held → List PileView → Passing → Point
 point h piles x = record { held = h; piles = piles; passing = x }
 
-ends_passed : (p : Program) → IsFit p → (h : Held) (piles : List PileView) (x : Passing) (ahead : List Label) → ComesFrom p (point h piles x) ahead → EndsKept (kind_among p.types.now) h
+pub ends_passed : (p : Program) → IsFit p → (h : Held) (piles : List PileView) (x : Passing) (ahead : List Label) → ComesFrom p (point h piles x) ahead → EndsKept (kind_among p.types.now) h
 ends_passed p fit h piles x ahead f =
     subst (λ (z : Held). EndsKept (kind_among p.types.now) z) (sym f.same)
     (ends_moved p fit f.before.piles piles f.before.held f.later x
@@ -175,9 +179,10 @@ pub record IsGiven : Type 0 where
   pub typed : ReachedAreTyped
   pub starts : StartsTyped
   pub reps : DestructorsPassReps
+  pub inside : ReachedStandInside
 
-pub given : CodePassesWords → ReachedAreTyped → StartsTyped → DestructorsPassReps → IsGiven
-given passes typed starts reps = record { passes = passes; typed = typed; starts = starts; reps = reps }
+pub given : CodePassesWords → ReachedAreTyped → StartsTyped → DestructorsPassReps → ReachedStandInside → IsGiven
+given passes typed starts reps inside = record { passes = passes; typed = typed; starts = starts; reps = reps; inside = inside }
 
 -- Something is to be passed.
 abbrev IsPassed : Passing → Type 0
@@ -191,7 +196,7 @@ nothing_else : (a b : List Label) → a ++ b ≡ [] → b ≡ []
 nothing_else [] b e = e
 nothing_else (x ∷ a) b e = absurd (cc)
 
-module _ (laws : IsGiven) (p : Program) (asked : IsAsked p) where
+module _ (laws : IsGiven) (p : Program) (fit : IsFit p) where
   abbrev g : Graph
   g = p.graph.now
 
@@ -216,10 +221,10 @@ module _ (laws : IsGiven) (p : Program) (asked : IsAsked p) where
     places = places_stand_kept g values s h (stacks_at piles) w rests.stands
 
     rest_so : GoesSo p h
-    rest_so = goes_so p h piles w asked.fit reached rests c.right (known_world p w asked.fit reached) laws.passes laws.typed laws.starts places
+    rest_so = goes_so p h piles w fit reached rests c.right (known_world p w fit reached) laws.passes laws.typed laws.starts places
 
     rest_may : RestWell p values s h piles w h.rest
-    rest_may = rests_well p h piles w asked.fit reached rests c.right laws.passes laws.typed laws.starts (known_world p w asked.fit reached) places
+    rest_may = rests_well p h piles w fit reached rests c.right laws.passes laws.typed laws.starts (known_world p w fit reached) places
 
   -- Where values are to be passed.
   module _ (lines : List Label) (h : Held) (piles : List PileView) (x : Passing) (c : IsCarried p lines (point h piles x)) (f : ComesFrom p (point h piles x) c.come.ahead) (world : World)
@@ -249,10 +254,10 @@ module _ (laws : IsGiven) (p : Program) (asked : IsAsked p) where
     }
 
     abbrev rested : RestsReached p values s before (stacks_at f.before.piles) f.world
-    rested = rests_reached p before f.before.piles f.world asked.fit f.reached f.rests f.right
+    rested = rests_reached p before f.before.piles f.world fit f.reached f.rests f.right
 
     prog : IsProgramOf p values s
-    prog = program_of p asked.fit
+    prog = program_of p fit
 
     passes_well : ((t : ℕ) → acting_of later ≡ Some t → PassesSo p t (handed later) x) → PassesWell p x h
     passes_well now =
@@ -267,14 +272,14 @@ module _ (laws : IsGiven) (p : Program) (asked : IsAsked p) where
     enters_well gives t acts =
         let may : MayArrive before.rest = arrive_from g p.ends.now before later gives in
         let same : later ≡ before = same_kept p before later may gives in
-        let e : EntersSo p t before = enters_so p before f.before.piles f.world asked.fit f.reached f.rests f.right later may gives t (ap acting_of (sym same) ∙ acts) in
+        let e : EntersSo p t before = enters_so p before f.before.piles f.world fit f.reached f.rests f.right later may gives t (ap acting_of (sym same) ∙ acts) in
         subst (λ (z : Held). EntersSo p t (handed z)) (sym same) (record { runs = e.runs; free = e.free; lends = e.lends; own = e.own })
 
     enters_there : woken g p.ends.now before.rest before ≡ Gives flow.Enters later → PassesThere p values s (handed later) world passing.Arguments
     enters_there gives =
         enters_handed p values s later world
-        (arguments_supplied p values s before (stacks_at f.before.piles) f.world rested (insts_there p before f.before.piles f.world asked.fit f.reached f.rests f.right) prog.fits
-        (memories_named p before f.before.piles f.world asked.fit f.reached f.rests f.right) (laws.reps g values s before (stacks_at f.before.piles) f.world asked.fit.runs rested.there)
+        (arguments_supplied p values s before (stacks_at f.before.piles) f.world rested (insts_there p before f.before.piles f.world fit f.reached f.rests f.right) prog.fits
+        (memories_named p before f.before.piles f.world fit f.reached f.rests f.right) (laws.reps g values s before (stacks_at f.before.piles) f.world fit.fits.runs rested.there)
         (arrive_from g p.ends.now before later gives) later (stacks_at piles) world gives stands_later)
 
     -- A task returns.
@@ -287,8 +292,8 @@ module _ (laws : IsGiven) (p : Program) (asked : IsAsked p) where
         let calls = called_from g p.ends.now before later flow.Returns (λ P none. none) gives in
         let led : CallLed g p.ends.now calls.0 before flow.Returns later = call_led calls.0 flow.Returns calls.1 gives in
         let l : ReturnsLed g calls.0 led.0 before later = led.2 in (
-          λ number at. value_none p before f.before.piles f.world asked.fit f.reached f.rests f.right number,
-          result_none p before f.before.piles f.world asked.fit f.reached f.rests f.right later l.led t,
+          λ number at. value_none p before f.before.piles f.world fit f.reached f.rests f.right number,
+          result_none p before f.before.piles f.world fit f.reached f.rests f.right later l.led t,
         )
 
     returns_there : woken g p.ends.now before.rest before ≡ Gives flow.Returns later → PassesThere p values s (handed later) world passing.Returned
@@ -297,11 +302,11 @@ module _ (laws : IsGiven) (p : Program) (asked : IsAsked p) where
         returned_supplied p values s before (stacks_at f.before.piles) f.world calls.0 prog rested calls.1 later (stacks_at piles) world gives behind
 
     -- Elements go over.
-    elements_there : (copying : Copying) → woken g p.ends.now before.rest before ≡ Gives (flow.Copies copying) later → ((t : ℕ) → acting_of later ≡ Some t → HasTestedPlace p (handed later) t copying)
-        → PassesThere p values s (handed later) world (passing.Elements copying)
-    elements_there copying gives tested =
+    elements_there : (copying : Copying) → woken g p.ends.now before.rest before ≡ Gives (flow.Copies copying) later → PassesThere p values s (handed later) world (passing.Elements copying)
+    elements_there copying gives =
         let calls = called_from g p.ends.now before later (flow.Copies copying) (λ P none. none) gives in
-        elements_supplied p values s before (stacks_at f.before.piles) f.world calls.0 copying prog rested calls.1 later (stacks_at piles) world gives tested behind
+        elements_supplied p values s before (stacks_at f.before.piles) f.world calls.0 copying prog rested calls.1 later (stacks_at piles) world gives
+        (places_supplied laws.inside p values s before (stacks_at f.before.piles) f.world calls.0 copying fit.fits.runs prog rested calls.1 later (stacks_at piles) world gives behind) behind
 
     -- A core function or a callback has ended.
     ends_well : (words : List ℕ) → before.rest ≡ rest.Runs → RunSteps f.before.piles before (Gives (step.GoesOn (passing.Ended words), piles) later) → (t : ℕ) → acting_of later ≡ Some t
@@ -313,9 +318,9 @@ module _ (laws : IsGiven) (p : Program) (asked : IsAsked p) where
         let led : IsLed before later =
         led_same before later (ap (λ (z : Held). z.chain) e.ran.same) (ap (λ (z : Held). z.rest) e.ran.same) (ap (λ (z : Held). z.instances) e.ran.same) (ap (λ (z : Held). z.tasks) e.ran.same) in
         by_kind t slot.task.kind
-        (ends_so p before f.before.piles f.world asked.fit f.reached f.rests f.right later (ap (λ (z : Held). z.tasks) e.ran.same) (ap (λ (z : Held). z.instances) e.ran.same) led t
+        (ends_so p before f.before.piles f.world fit f.reached f.rests f.right later (ap (λ (z : Held). z.tasks) e.ran.same) (ap (λ (z : Held). z.instances) e.ran.same) led t
         (subst (λ (n : ℕ). RunsFunction before n) same
-        (ended_function p values s before f.before.piles piles f.world words laws.typed asked.fit.runs prog rested runs later world behind e)) slot.task.kind)
+        (ended_function p values s before f.before.piles piles f.world words laws.typed fit.fits.runs prog rested runs later world behind e)) slot.task.kind)
       where
         by_kind : (t : ℕ) (kind : Kind) → EndsByKind p t later kind → EndsByKind p t (handed later) kind
         by_kind t Sync e = e
@@ -327,11 +332,11 @@ module _ (laws : IsGiven) (p : Program) (asked : IsAsked p) where
     ends_there words runs steps =
         let e : HasEnded before f.before.piles words later = has_ended before f.before.piles piles words later steps in (
           f.told (ap (λ (z : Held). z.labels) e.ran.same ∙ f.none),
-          ended_supplied laws.typed p values s before f.before.piles piles f.world words asked.fit.runs prog rested runs later world steps behind,
+          ended_supplied laws.typed p values s before f.before.piles piles f.world words fit.fits.runs prog rested runs later world steps behind,
         )
 
   -- All that a step asks, by what is to be passed.
-  from_rest : (lines : List Label) (h : Held) (piles : List PileView) (x : Passing) (c : IsCarried p lines (point h piles x)) → (x ≡ passing.Nothing → ⊥) → ComesFrom p (point h piles x) c.come.ahead
+  pub from_rest : (lines : List Label) (h : Held) (piles : List PileView) (x : Passing) (c : IsCarried p lines (point h piles x)) → (x ≡ passing.Nothing → ⊥) → ComesFrom p (point h piles x) c.come.ahead
   from_rest lines h piles x c some = elim c.from [
     | inl none ↦ absurd (some none)
     | inr f ↦ f
@@ -355,7 +360,7 @@ module _ (laws : IsGiven) (p : Program) (asked : IsAsked p) where
   steps_so lines h piles (passing.Elements copying) c =
       let f = from_rest lines h piles (passing.Elements copying) c (λ e. cc) in
       passes_well lines h piles (passing.Elements copying) c f c.come.point.world c.come.point.stands
-      (λ t acts. value_none p f.before.held f.before.piles f.world asked.fit f.reached f.rests f.right copying.canon)
+      (λ t acts. value_none p f.before.held f.before.piles f.world fit f.reached f.rests f.right copying.canon)
 
   may_step : (lines : List Label) (h : Held) (piles : List PileView) (x : Passing) (c : IsCarried p lines (point h piles x)) → MayStep p values s h piles x c.come.ahead c.come.world c.come.point
   may_step lines h piles passing.Nothing c = rest_may lines h piles c
@@ -375,8 +380,14 @@ module _ (laws : IsGiven) (p : Program) (asked : IsAsked p) where
   may_step lines h piles (passing.Elements copying) c =
       let f = from_rest lines h piles (passing.Elements copying) c (λ e. cc) in
       passes_there lines h piles (passing.Elements copying) c f c.come.point.world c.come.point.stands
-      (elements_there lines h piles (passing.Elements copying) c f c.come.point.world c.come.point.stands copying (came lines h piles (passing.Elements copying) c f c.come.point.world c.come.point.stands)
-      (λ t acts. subst (λ (z : Held). HasTestedPlace p z t copying) f.same (asked.leave.placed lines (point h piles (passing.Elements copying)) copying t c refl (ap acting_of f.same ∙ acts))))
+      (elements_there lines h piles (passing.Elements copying) c f c.come.point.world c.come.point.stands copying (came lines h piles (passing.Elements copying) c f c.come.point.world c.come.point.stands))
+
+  -- Where elements go over, the end of the call is of the type of the built-in, whose elements have the type of a number.
+  pub elements_typed : (lines : List Label) (h : Held) (piles : List PileView) (copying : Copying) → IsCarried p lines (point h piles (passing.Elements copying))
+      → HasEndOf p values h copying × MayBeAt values (value_of p copying.canon) (element_at g copying.canon)
+  elements_typed lines h piles copying c =
+      let there : PassesThere p values s h c.come.point.world (passing.Elements copying) = may_step lines h piles (passing.Elements copying) c in
+      (there.may.well.end, there.may.well.typed)
 
   -- A step that goes on leaves it.
   module _ (lines : List Label) (b to : Point) (c : IsCarried p lines b) (taken : StepsTo Passes p b (Gives (step.GoesOn to.passing, to.piles) to.held)) where
@@ -425,9 +436,9 @@ module _ (laws : IsGiven) (p : Program) (asked : IsAsked p) where
         subst (λ (y : Passing). InPassing g values s to.held (stacks_at to.piles) y agrees.now_ahead agrees.world) is agrees.point in
         handles_are_alone_lent g values s to.held (stacks_at to.piles) agrees.world
         (record {
-          apart = asked.fit.runs.apart;
-          no_borrow = asked.fit.no_borrow;
-          no_end = asked.fit.no_end;
+          apart = fit.fits.runs.apart;
+          no_borrow = fit.fits.no_borrow;
+          no_end = fit.fits.no_end;
           steps = c.come.steps ++ agrees.steps;
           reached = reaches_on g s (first_world g) c.come.world agrees.world c.come.steps agrees.steps c.come.reached agrees.reached;
           stands = at.stands;
@@ -448,23 +459,27 @@ module _ (laws : IsGiven) (p : Program) (asked : IsAsked p) where
     lent_on (passing.Elements copying) is = lent_resting (passed_nothing (passing.Elements copying) is tt)
 
     ends_kept_here : (b.passing ≡ passing.Nothing → ⊥) → EndsKept (kind_among p.types.now) b.held
-    ends_kept_here some = ends_passed p asked.fit b.held b.piles b.passing c.come.ahead (from_rest lines b.held b.piles b.passing c some)
+    ends_kept_here some = ends_passed p fit b.held b.piles b.passing c.come.ahead (from_rest lines b.held b.piles b.passing c some)
 
     ends_behind : (x : Passing) → b.passing ≡ x → IsOfTask x → (b.passing ≡ passing.Nothing → ⊥) → HasMarkedEnds to.held
     ends_behind x is of some =
-        passing_keeps_ends p (kind_among p.types.now) x b.piles b.held (Gives (step.GoesOn to.passing, to.piles) to.held) asked.fit.made.distinct (scripts_pass_none p asked.fit.no_end) of
+        passing_keeps_ends p (kind_among p.types.now) x b.piles b.held (Gives (step.GoesOn to.passing, to.piles) to.held) fit.made.distinct (scripts_pass_none p fit.fits.no_end) of
         (subst (λ (y : Passing). StepsSo p b.held y) is so) c.right.marks (ends_kept_here some) (taken_from x is)
 
     ends_over : (copying : Copying) → b.passing ≡ passing.Elements copying → (b.passing ≡ passing.Nothing → ⊥) → HasMarkedEnds to.held
-    ends_over copying is some = asked.leave.ends lines b to copying c is (ends_kept_here some) so taken
+    ends_over copying is some =
+        let now : IsCarried p lines (point b.held b.piles (passing.Elements copying)) = subst (λ (y : Passing). IsCarried p lines (point b.held b.piles y)) is c in
+        let typed = elements_typed lines b.held b.piles copying now in
+        elements_keep_ends p (kind_among p.types.now) copying b.piles b.held (Gives (step.GoesOn to.passing, to.piles) to.held) fit.made.distinct typed.0 typed.1
+        (subst (λ (y : Passing). StepsSo p b.held y) is so) c.right.marks (ends_kept_here some) (taken_from (passing.Elements copying) is)
 
     ends_resting : b.passing ≡ passing.Nothing → HasMarkedEnds to.held
     ends_resting is =
         let at : AtRest g values s b.held (stacks_at b.piles) c.come.ahead c.come.world =
         subst (λ (y : Passing). InPassing g values s b.held (stacks_at b.piles) y c.come.ahead c.come.world) is c.come.point in
         let k : EndsKept (kind_among values) to.held =
-        ends_moved p asked.fit b.piles to.piles b.held to.held to.passing (taken_from passing.Nothing is)
-        (ends_at p asked.fit b.held (stacks_at b.piles) c.come.world (c.come.steps, c.come.reached) at.stands c.right.ends) in
+        ends_moved p fit b.piles to.piles b.held to.held to.passing (taken_from passing.Nothing is)
+        (ends_at p fit b.held (stacks_at b.piles) c.come.world (c.come.steps, c.come.reached) at.stands c.right.ends) in
         k.marked
 
     ends_on : (x : Passing) → b.passing ≡ x → HasMarkedEnds to.held
@@ -534,20 +549,20 @@ first_carried p =
     }
 
 pub carried_steps_so : IsGiven → CarriedStepsSo
-carried_steps_so laws p lines b asked c = steps_so laws p asked lines b.held b.piles b.passing c
+carried_steps_so laws p lines b fit c = steps_so laws p fit lines b.held b.piles b.passing c
 
 pub carried_may_step : IsGiven → CarriedMayStep
-carried_may_step laws p lines b asked c = may_step laws p asked lines b.held b.piles b.passing c
+carried_may_step laws p lines b fit c = may_step laws p fit lines b.held b.piles b.passing c
 
 pub steps_carry : IsGiven → StepsCarry
-steps_carry laws p lines more b to asked c goes = carry laws p asked lines more b to c goes
+steps_carry laws p lines more b to fit c goes = carry laws p fit lines more b to c goes
 
-module _ (laws : IsGiven) (p : Program) (asked : IsAsked p) where
+module _ (laws : IsGiven) (p : Program) (fit : IsFit p) where
   pub carried_at : (count : ℕ) (lines : List Label) (b : Point) → GoOn Passes p count (start_of p) lines b → IsCarried p lines b
   carried_at zero lines b (none, is) =
       subst (λ (x : Point). IsCarried p lines x) (sym is) (subst (λ (ls : List Label). IsCarried p ls (start_of p)) (sym none) (first_carried p))
   carried_at (suc count) lines b (mid, before, more, goes, further, is) =
-      subst (λ (ls : List Label). IsCarried p ls b) (sym is) (carry laws p asked before more mid b (carried_at count before mid goes) further)
+      subst (λ (ls : List Label). IsCarried p ls b) (sym is) (carry laws p fit before more mid b (carried_at count before mid goes) further)
 
   abbrev arrived : (lines : List Label) (b : Point) → IsCarried p lines b → Arrives p p.types.now lines b
   arrived lines b c = record {
@@ -568,7 +583,7 @@ module _ (laws : IsGiven) (p : Program) (asked : IsAsked p) where
           let a : Arrives p p.types.now run.before run.last = arrived run.before run.last c in
           let agreed : RuleAgrees p.graph.now p.types.now p.script.now a.ahead a.world d =
           step_is_made p p.types.now p.script.now run.last.held run.last.piles run.last.passing a.ahead a.world d (a.steps, a.reached) a.none a.point
-          (may_step laws p asked run.before run.last.held run.last.piles run.last.passing c) taken in
+          (may_step laws p fit run.before run.last.held run.last.piles run.last.passing c) taken in
           let m : OfMachine p p.types.now run.before b.held last = last_agrees p p.types.now run.before run.last a d last b.held agreed is kept_so in
           subst (λ (x : Held). LeavesWorld p.graph.now p.types.now p.script.now lines end x) (sym left)
           (subst (λ (x : RunEnd). LeavesWorld p.graph.now p.types.now p.script.now lines x (handed b.held)) (sym same_end)
@@ -576,7 +591,7 @@ module _ (laws : IsGiven) (p : Program) (asked : IsAsked p) where
           (record { run = m.run; stands = m.stands })))
 
 pub runs_leave_worlds : IsGiven → RunsLeaveWorlds
-runs_leave_worlds laws p end lines h asked run = of_machine laws p asked end lines h run
+runs_leave_worlds laws p end lines h fit run = of_machine laws p fit end lines h run
 
 pub runs_are_of_machine : IsGiven → RunsAreOfMachine
-runs_are_of_machine laws p end lines h asked run = (of_machine laws p asked end lines h run).run
+runs_are_of_machine laws p end lines h fit run = (of_machine laws p fit end lines h run).run

@@ -15,9 +15,10 @@ use Rattle.abi_machine.specs.World.{World}
 use Rattle.abi_machine.specs.Canons.{inst_of_canon}
 use Rattle.abi_machine.specs.Reading.{func_of, may_leave}
 use Rattle.abi_machine.specs.sound.Acting.{outline_of, WasBlocked}
+use Rattle.reach_laws.specs.KnownPlans.{InstancesBegin}
 use Rattle.reach_laws.specs.Reached.{ReachedAreTyped, CodePassesWords}
 use Rattle.reach_laws.specs.Runnable.{IsRunnable}
-use Rattle.run_laws.specs.Supplied.{RestsReached, InstancesThere, InstancesBegin, CallLeft, CallStillAsked, MoveLeft, MoveStillAsked, FittingMovesSupplied}
+use Rattle.run_laws.specs.Supplied.{RestsReached, InstancesThere, CallLeft, CallStillAsked, MoveLeft, MoveStillAsked, FittingMovesSupplied}
 use Rattle.run_laws.proofs.supplied.All.{moves_are_supplied}
 use Rattle.run_laws.proofs.supplied.Begun.{instances_there, canons_inside, late_runs}
 use Rattle.run_laws.proofs.supplied.Fitting.{calls_pass, waits_stand_inside}

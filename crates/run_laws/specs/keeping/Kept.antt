@@ -18,16 +18,20 @@ use Rattle.task_table.specs.declared.caller.Caller.TheVariants as by
 use Rattle.task_table.specs.declared.slot.TaskSlot.{TaskSlot}
 use Rattle.task_table.specs.Callers.{called_of}
 use Rattle.world_parts.specs.Held.{Held, Done, Gives, Traps, Spent, Stuck}
-use Rattle.standing.specs.KeptMarks.{runs_func, runs_at, place_in, HasMarks, is_task_at, lends_at, awaited_at}
+use Rattle.standing.specs.KeptMarks.{runs_func, runs_at, place_in, HasMarks, LendsMarked, is_task_at, lends_at, awaited_at}
 
 -- They stay.
 abbrev pub MarksStay : Held → Held → Type 0
 MarksStay h k = HasMarks h → HasMarks k
 
--- So it is of what a part gives. Behind a trap, and where fuel is wanting, no run goes on.
+-- Of these marks what is written down of what is kept tells one: how often each handle is lent.
+abbrev pub LendsRight : Held → Type 0
+LendsRight h = LendsMarked h.instances h.tasks
+
+-- So it is of what a part gives. Behind a trap no run goes on, and those of handles that are lent are right; where fuel is wanting nothing is said.
 abbrev pub KeepsMarks : {A : Type 0} → Held → Done A → Type 0
 KeepsMarks h (Gives x k) = MarksStay h k
-KeepsMarks h (Traps why k) = Unit {0}
+KeepsMarks h (Traps why k) = HasMarks h → LendsRight k
 KeepsMarks h (Spent k) = Unit {0}
 KeepsMarks h Stuck = Unit {0}
 

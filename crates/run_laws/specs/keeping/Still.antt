@@ -16,13 +16,16 @@ use Rattle.channels.specs.declared.channel.Channel.{Channel}
 use Rattle.comp_graph.specs.declared.graph.Builtin.{Builtin}
 use Rattle.comp_graph.specs.declared.graph.CanonFunc.TheVariants as canon
 use Rattle.comp_graph.specs.Graph.{Graph}
+use Rattle.comp_graph.specs.Passed.{MayBeAt}
+use Rattle.copy_replies.specs.Moves.{element_at}
 use Rattle.graph_views.specs.Canons.{canon_at}
 use Rattle.script_reader.specs.Script.{Script}
 use Rattle.instances.specs.declared.entry.EndEntry.{EndEntry}
 use Rattle.instances.specs.declared.entry.WorldEntry.TheVariants as entry
 use Rattle.instances.specs.Instances.{InstanceView, entry_of}
 use Rattle.programs.specs.declared.program.Program.{Program}
-use Rattle.programs.specs.Program.{host_values}
+use Rattle.programs.specs.Program.{host_values, value_of}
+use Rattle.world_parts.specs.declared.parts.Copying.{Copying}
 use Rattle.world_parts.specs.Held.{Held, Done, Gives, Traps, Spent, Stuck}
 use Rattle.wasm_store.specs.Stack.{Stack}
 use Rattle.world_stacks.specs.Views.{PileView}
@@ -43,6 +46,7 @@ use Rattle.abi_machine.specs.World.{World}
 use Rattle.run_laws.specs.Answering.{HasTypes}
 use Rattle.run_laws.specs.Reached.{StandsReached}
 use Rattle.run_laws.specs.Supplied.{KeepsMemories, PlacesAreKept}
+use Rattle.run_laws.specs.Transfers.{HasEndOf}
 use Rattle.run_laws.specs.keeping.Tables.{HandlesAloneLent}
 
 -- The first memory of a core instance, where it has one; and the memories that are kept are those, one for each.
@@ -78,7 +82,7 @@ TypesFit g types K =
     (number type : ℕ) (b : Builtin) (of_what : EndKind) (element : Option ValType) (op : EndOp) → canon_at g number ≡ Some (canon.Builtin b) → b.kind ≡ kind.End of_what element op
     → slice_get types number ≡ Some (Some type) → K type ≡ of_what
 
--- Each step keeps memories. Of ends, which a step keeps where no values are passed; where these are, see below.
+-- Each step keeps memories. Of ends, which a step keeps where no values are passed; where these are, see below. Behind a trap they are marked.
 abbrev pub KeepsMemory : {A : Type 0} → Held → Done A → Type 0
 KeepsMemory h (Gives x k) = MemoriesKept h → MemoriesKept k
 KeepsMemory h (Traps why k) = Unit {0}
@@ -97,7 +101,7 @@ MemoriesAreFirst = (h : Held) → MemoriesKept h → KeepsMemories h
 
 abbrev pub KeepsEnds : {A : Type 0} → (ℕ → EndKind) → Held → Done A → Type 0
 KeepsEnds K h (Gives x k) = EndsKept K h → EndsKept K k
-KeepsEnds K h (Traps why k) = Unit {0}
+KeepsEnds K h (Traps why k) = EndsKept K h → HasMarkedEnds k
 KeepsEnds K h (Spent k) = Unit {0}
 KeepsEnds K h Stuck = Unit {0}
 
@@ -177,7 +181,7 @@ IsOfTask (passing.Elements copying) = ⊥
 
 abbrev pub GivesMarked : {A : Type 0} → Done A → Type 0
 GivesMarked (Gives x k) = HasMarkedEnds k
-GivesMarked (Traps why k) = Unit {0}
+GivesMarked (Traps why k) = HasMarkedEnds k
 GivesMarked (Spent k) = Unit {0}
 GivesMarked Stuck = Unit {0}
 
@@ -185,3 +189,10 @@ abbrev pub PassingKeepsEnds : Type 0
 PassingKeepsEnds =
     (p : Program) (K : ℕ → EndKind) (x : Passing) (piles : List PileView) (h : Held) (d : Done (Step × List PileView)) → AreDistinct p.types.now → HostPassesNone p → IsOfTask x → StepsSo p h x
     → HasMarks h → EndsKept K h → Steps Passes p x piles h d → GivesMarked d
+
+-- So they are behind one in which elements go over, where the end of the call is of the type of the built-in, whose elements have the type of a number.
+abbrev pub ElementsKeepEnds : Type 0
+ElementsKeepEnds =
+    (p : Program) (K : ℕ → EndKind) (copying : Copying) (piles : List PileView) (h : Held) (d : Done (Step × List PileView)) → AreDistinct p.types.now → HasEndOf p p.types.now h copying
+    → MayBeAt p.types.now (value_of p copying.canon) (element_at p.graph.now copying.canon) → StepsSo p h (passing.Elements copying) → HasMarks h → EndsKept K h
+    → Steps Passes p (passing.Elements copying) piles h d → GivesMarked d

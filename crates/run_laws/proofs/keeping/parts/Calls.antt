@@ -23,7 +23,7 @@ use Rattle.world_parts.specs.Calls.{blocked, blocked_in, call_begun}
 use Rattle.standing.specs.Marks.{StateMarked}
 use Rattle.standing.proofs.States.{new_is_marked}
 use Rattle.run_laws.specs.keeping.Kept.{NumbersThere}
-use Rattle.run_laws.proofs.keeping.Others.{KeptBy, keeps_after, keeps_if, keeps_all, keeps_through, look_keeps}
+use Rattle.run_laws.proofs.keeping.Others.{KeptBy, keeps_after, keeps_if, keeps_all, keeps_through, look_keeps, traps_same}
 use Rattle.run_laws.proofs.keeping.Sums.{length_set}
 use Rattle.run_laws.proofs.keeping.Changes.{task_keeps}
 use Rattle.run_laws.proofs.keeping.Made.{Begins}
@@ -64,7 +64,7 @@ call_begun_keeps t canon callee instance kind words h numbers =
     let slot : TaskSlot = new_slot instance kind callee (Guest (new_called t canon words made)) in
     keeps_if h (reenters instance t h) (Traps trap.Reentrant h)
     (after (errand_set t (errand.AfterCall made canon) h)
-    (λ done l. after (task_made slot l) (λ number m. after (told (line.Call t made (instance + 1)) m) (λ done n. after (chained made n) (λ done o. Gives flow.Rests (at_rest rest.Arrives o)))))) tt
+    (λ done l. after (task_made slot l) (λ number m. after (told (line.Call t made (instance + 1)) m) (λ done n. after (chained made n) (λ done o. Gives flow.Rests (at_rest rest.Arrives o)))))) (traps_same h)
     (look_keeps h (slice_get h.tasks t) (λ x. Gives (tt {0}) (with_task t (at_errand (errand.AfterCall made canon) x) h))
     (λ done l. after (task_made slot l) (λ number m. after (told (line.Call t made (instance + 1)) m) (λ done n. after (chained made n) (λ done o. Gives flow.Rests (at_rest rest.Arrives o)))))
     (λ x is.

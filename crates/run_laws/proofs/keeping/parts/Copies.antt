@@ -35,7 +35,7 @@ use Rattle.abi_machine.proofs.sound.Found.{some_same, ok_same}
 use Rattle.standing.specs.KeptMarks.{is_borrow_of}
 use Rattle.standing.proofs.marks.Tables.{put_same}
 use Rattle.run_laws.specs.keeping.Kept.{TableIsSound}
-use Rattle.run_laws.proofs.keeping.Others.{KeptBy, keeps_after, keeps_given, keeps_if, keeps_from, keeps_through, look_keeps, found_keeps, full_keeps}
+use Rattle.run_laws.proofs.keeping.Others.{KeptBy, keeps_after, keeps_given, keeps_if, keeps_from, keeps_through, look_keeps, found_keeps, full_keeps, traps_same, traps_put}
 use Rattle.run_laws.proofs.keeping.Changes.{same_keeps}
 use Rattle.run_laws.proofs.keeping.Tables.{other_added}
 use Rattle.run_laws.proofs.keeping.parts.Channels.{concluded_keeps, end_dropped_keeps, idle_seen_keeps}
@@ -66,7 +66,7 @@ ends_keep t at type number h sound =
     (λ i is.
     full_keeps h (with_instance at i h) (nat_lt (count i.slots) most_live) trap.TableFull
     (Gives (next_of i.slots) (with_instance at (instance.entry_added (new_end Reader type number) i) h))
-    (λ readable l. after (entry_added at (new_end Writer type number) l) (λ writable m. got t (both_indices readable writable ∷ []) m))
+    (λ readable l. after (entry_added at (new_end Writer type number) l) (λ writable m. got t (both_indices readable writable ∷ []) m)) (traps_put h at i is)
     (λ room.
     let k : Held = with_instance at (instance.entry_added (new_end Reader type number) i) h in
     keeps_through h k (after (entry_added at (new_end Writer type number) k) (λ writable m. got t (both_indices (next_of i.slots) writable ∷ []) m))
@@ -113,8 +113,8 @@ dropped_end_keeps t at index kind side number h none =
 pub drop_tested_keeps : (t : ℕ) (at : ℕ) (index : ℕ) (kind : EndKind) (side : Side) (number : ℕ) (e : End) (h : Held) → NotBorrow h at index
     → KeptBy h (drop_tested t at index kind side number e h)
 drop_tested_keeps t at index kind side number e h none =
-    keeps_if h (is_copying e) (Traps trap.Busy h) (if is_unwritten kind side e.done then Traps trap.UnwrittenFuture h else dropped_end t at index kind side number h) tt
-    (keeps_if h (is_unwritten kind side e.done) (Traps trap.UnwrittenFuture h) (dropped_end t at index kind side number h) tt (dropped_end_keeps t at index kind side number h none))
+    keeps_if h (is_copying e) (Traps trap.Busy h) (if is_unwritten kind side e.done then Traps trap.UnwrittenFuture h else dropped_end t at index kind side number h) (traps_same h)
+    (keeps_if h (is_unwritten kind side e.done) (Traps trap.UnwrittenFuture h) (dropped_end t at index kind side number h) (traps_same h) (dropped_end_keeps t at index kind side number h none))
 
 -- The end that is found stands at the index.
 typed_there : (b : Bool) (x e : EndEntry) → (if b then Ok x else Err refusal.OtherType) ≡ Ok e → x ≡ e
@@ -157,4 +157,4 @@ copy_given_up_keeps t at index kind side number h =
 pub copy_cancel_keeps : (g : Views) (t : ℕ) (at : ℕ) (kind : EndKind) (side : Side) (type : ℕ) (words : List ℕ) (h : Held) → KeptBy h (copy_cancel g t at kind side type words h)
 unfolding copy_cancel
 copy_cancel_keeps g t at kind side type words h =
-    keeps_given h (word_in words 0) (λ index. after (end_found at side type index h) (λ e k. given (channel_at kind e.number k) (λ c. if not (copy_is_async g (channel_end side c.ends).copy) then Traps trap.NotCopying k else copy_given_up t at index kind side e.number k))) (λ index is. keeps_after h (end_found at side type index h) (λ e k. given (channel_at kind e.number k) (λ c. if not (copy_is_async g (channel_end side c.ends).copy) then Traps trap.NotCopying k else copy_given_up t at index kind side e.number k)) (end_found_keeps at side type index h) (λ e k. keeps_given k (channel_at kind e.number k) (λ c. if not (copy_is_async g (channel_end side c.ends).copy) then Traps trap.NotCopying k else copy_given_up t at index kind side e.number k) (λ c is. keeps_if k (not (copy_is_async g (channel_end side c.ends).copy)) (Traps trap.NotCopying k) (copy_given_up t at index kind side e.number k) tt (copy_given_up_keeps t at index kind side e.number k))))
+    keeps_given h (word_in words 0) (λ index. after (end_found at side type index h) (λ e k. given (channel_at kind e.number k) (λ c. if not (copy_is_async g (channel_end side c.ends).copy) then Traps trap.NotCopying k else copy_given_up t at index kind side e.number k))) (λ index is. keeps_after h (end_found at side type index h) (λ e k. given (channel_at kind e.number k) (λ c. if not (copy_is_async g (channel_end side c.ends).copy) then Traps trap.NotCopying k else copy_given_up t at index kind side e.number k)) (end_found_keeps at side type index h) (λ e k. keeps_given k (channel_at kind e.number k) (λ c. if not (copy_is_async g (channel_end side c.ends).copy) then Traps trap.NotCopying k else copy_given_up t at index kind side e.number k) (λ c is. keeps_if k (not (copy_is_async g (channel_end side c.ends).copy)) (Traps trap.NotCopying k) (copy_given_up t at index kind side e.number k) (traps_same k) (copy_given_up_keeps t at index kind side e.number k))))

@@ -20,7 +20,7 @@ use Rattle.instances.specs.Calls.{dropped_set, is_there, has_waiter}
 use Rattle.trace_labels.specs.declared.trap.TrapName.TheVariants as trap
 use Rattle.world_parts.specs.Held.{Held, Gives, Traps, Stuck, given}
 use Rattle.world_parts.specs.Entries.{with_instance, subtask_number, set_number, entry_found, subtask_found, set_found, subtask_known, set_known, waitable_found, end_found, rep_found, sets_made, named, entry_added, removed_of, entry_removed, end_idled, set_made, set_joined, set_left, set_waited_on, set_waited_off, set_gone, set_dropped}
-use Rattle.run_laws.proofs.keeping.Others.{Keeps, KeptBy}
+use Rattle.run_laws.proofs.keeping.Others.{Keeps, KeptBy, traps_same, traps_put}
 use Rattle.standing.specs.KeptMarks.{is_borrow_of}
 use Rattle.run_laws.specs.keeping.Kept.{TableIsSound, NextIsUnlent, NoneWaitsNext, IsNotAwaited}
 use Rattle.run_laws.proofs.keeping.Changes.{instance_keeps, same_keeps}
@@ -30,7 +30,7 @@ use Rattle.run_laws.proofs.keeping.Others.{keeps_given, keeps_if, keeps_same}
 -- What is found, or a trap.
 pub named_keeps : {A : Type 0} (r : Result A Refusal) (h : Held) → KeptBy h (named r h)
 named_keeps (Ok x) h = keeps_same h
-named_keeps (Err why) h = tt
+named_keeps (Err why) h = traps_same h
 
 -- A set or an end comes, where the table is sound.
 pub other_added_keeps : (at : ℕ) (e : WorldEntry) (h : Held) → IsOther e → TableIsSound h at → KeptBy h (entry_added at e h)
@@ -39,7 +39,7 @@ other_added_keeps at e h q sound =
     (λ i. if nat_lt (count i.slots) most_live then Gives (next_of i.slots) (with_instance at (instance.entry_added e i) h) else Traps trap.TableFull (with_instance at i h))
     (λ i is.
     keeps_if h (nat_lt (count i.slots) most_live) (Gives (next_of i.slots) (with_instance at (instance.entry_added e i) h)) (Traps trap.TableFull (with_instance at i h))
-    (other_added h at i e is q (sound i is)) tt)
+    (other_added h at i e is q (sound i is)) (traps_put h at i is))
 
 -- An own handle does, of which nothing is lent, where nothing is lent at the next index.
 pub handle_added_keeps : (at resource rep : ℕ) (h : Held) → TableIsSound h at → NextIsUnlent h at → KeptBy h (entry_added at (entry.Handle (own_handle resource rep)) h)
@@ -50,7 +50,7 @@ handle_added_keeps at resource rep h sound unlent =
     else Traps trap.TableFull (with_instance at i h))
     (λ i is.
     keeps_if h (nat_lt (count i.slots) most_live) (Gives (next_of i.slots) (with_instance at (instance.entry_added (entry.Handle (own_handle resource rep)) i) h))
-    (Traps trap.TableFull (with_instance at i h)) (own_added h at i (own_handle resource rep) is refl refl (sound i is) (unlent i is)) tt)
+    (Traps trap.TableFull (with_instance at i h)) (own_added h at i (own_handle resource rep) is refl refl (sound i is) (unlent i is)) (traps_put h at i is))
 
 -- A subtask does, for which no task waits.
 pub subtask_added_keeps : (at callee : ℕ) (h : Held) → TableIsSound h at → NoneWaitsNext h at → IsNotAwaited h callee → KeptBy h (entry_added at (entry.Subtask callee) h)
@@ -61,7 +61,7 @@ subtask_added_keeps at callee h sound alone new =
     else Traps trap.TableFull (with_instance at i h))
     (λ i is.
     keeps_if h (nat_lt (count i.slots) most_live) (Gives (next_of i.slots) (with_instance at (instance.entry_added (entry.Subtask callee) i) h))
-    (Traps trap.TableFull (with_instance at i h)) (subtask_added h at callee i is (sound i is) (alone i is) (λ slot called found guest. new slot called found guest)) tt)
+    (Traps trap.TableFull (with_instance at i h)) (subtask_added h at callee i is (sound i is) (alone i is) (λ slot called found guest. new slot called found guest)) (traps_put h at i is))
 
 -- What stands at an index is no borrow handle.
 abbrev pub NotBorrow : Held → ℕ → ℕ → Type 0
@@ -123,7 +123,7 @@ set_gone_keeps : (r : Result (Unit {0}) DropSetError) (at : ℕ) (i : InstanceVi
     → KeptBy h (set_gone r (with_instance at i h))
 set_gone_keeps (Ok done) at i h is = same_keeps h at i i is refl
 set_gone_keeps (Err drop_error.NoSet) at i h is = tt
-set_gone_keeps (Err (drop_error.Refused why)) at i h is = tt
+set_gone_keeps (Err (drop_error.Refused why)) at i h is = traps_put h at i is
 
 pub set_dropped_keeps : (at set : ℕ) (h : Held) → KeptBy h (set_dropped at set h)
 set_dropped_keeps at set h =

@@ -9,7 +9,7 @@ use Rattle.trace_labels.specs.declared.trap.TrapName.TheVariants as trap
 use Rattle.world_parts.specs.Held.{Held, Gives, Traps}
 use Rattle.world_parts.specs.Entries.{with_instance}
 use Rattle.world_parts.specs.Gates.{entry_is_free, pressure_lowered, pressure_raised, pressure_set}
-use Rattle.run_laws.proofs.keeping.Others.{Keeps, KeptBy}
+use Rattle.run_laws.proofs.keeping.Others.{Keeps, KeptBy, traps_put}
 use Rattle.run_laws.proofs.keeping.Others.{keeps_given, keeps_if, keeps_same}
 use Rattle.run_laws.proofs.keeping.Changes.{same_keeps}
 
@@ -22,7 +22,7 @@ pressure_raised_keeps at h =
     (λ i. if nat_lt i.gate.pressure 65535 then Gives (tt {0}) (with_instance at (with_gate (with_pressure (i.gate.pressure + 1) i.gate) i) h) else Traps trap.PressureLimit (with_instance at i h))
     (λ i is.
     keeps_if h (nat_lt i.gate.pressure 65535) (Gives (tt {0}) (with_instance at (with_gate (with_pressure (i.gate.pressure + 1) i.gate) i) h)) (Traps trap.PressureLimit (with_instance at i h))
-    (pressed h at (i.gate.pressure + 1) i is) tt)
+    (pressed h at (i.gate.pressure + 1) i is) (traps_put h at i is))
 
 pub pressure_lowered_keeps : (at : ℕ) (h : Held) → KeptBy h (pressure_lowered at h)
 pressure_lowered_keeps at h =
@@ -30,7 +30,7 @@ pressure_lowered_keeps at h =
     (λ i. if nat_lt 0 i.gate.pressure then Gives (tt {0}) (with_instance at (with_gate (with_pressure (i.gate.pressure - 1) i.gate) i) h) else Traps trap.PressureZero (with_instance at i h))
     (λ i is.
     keeps_if h (nat_lt 0 i.gate.pressure) (Gives (tt {0}) (with_instance at (with_gate (with_pressure (i.gate.pressure - 1) i.gate) i) h)) (Traps trap.PressureZero (with_instance at i h))
-    (pressed h at (i.gate.pressure - 1) i is) tt)
+    (pressed h at (i.gate.pressure - 1) i is) (traps_put h at i is))
 
 pub pressure_set_keeps : (at enabled : ℕ) (h : Held) → KeptBy h (pressure_set at enabled h)
 pressure_set_keeps at enabled h =

@@ -27,7 +27,7 @@ use Rattle.world_parts.specs.Calls.{call_begun}
 use Rattle.world_parts.specs.Handles.{destroyed, destroyed_by, destroyed_of, dropped, resource_drop, resource_new, resource_rep, undestroyed}
 use Rattle.standing.proofs.HandlesFound.{dropped_there}
 use Rattle.run_laws.specs.keeping.Kept.{NumbersThere, TableIsSound, NextIsUnlent}
-use Rattle.run_laws.proofs.keeping.Others.{KeptBy, keeps_after, keeps_given, keeps_if, keeps_all, keeps_through, look_keeps}
+use Rattle.run_laws.proofs.keeping.Others.{KeptBy, keeps_after, keeps_given, keeps_if, keeps_all, keeps_through, look_keeps, traps_same, traps_put}
 use Rattle.run_laws.proofs.keeping.Carried.{numbers_removed}
 use Rattle.run_laws.proofs.keeping.Dropped.{own_dropped, unborrow_keeps}
 use Rattle.run_laws.proofs.keeping.parts.Calls.{call_begun_keeps}
@@ -47,7 +47,7 @@ resource_rep_keeps t at resource words h =
 pub undestroyed_keeps : (t : ℕ) (at : ℕ) (instance : ℕ) (h : Held) → KeptBy h (undestroyed t at instance h)
 unfolding undestroyed
 undestroyed_keeps t at instance h =
-    keeps_if h (not (nat_eq instance at) && reenters instance t h) (Traps trap.Reentrant h) (got t [] h) tt (got_keeps t [] h)
+    keeps_if h (not (nat_eq instance at) && reenters instance t h) (Traps trap.Reentrant h) (got t [] h) (traps_same h) (got_keeps t [] h)
 
 pub destroyed_by_keeps : (t : ℕ) (at : ℕ) (canon : ℕ) (x : Handle) (instance : ℕ) (ref : FuncRef) (h : Held) → NumbersThere h → KeptBy h (destroyed_by t at canon x instance ref h)
 unfolding destroyed_by
@@ -79,7 +79,7 @@ taken_keeps : (g : Views) (t at canon resource index : ℕ) (i : InstanceView) (
     → dropped_in (view_of i index) resource ≡ r → NumbersThere h → KeptBy h (after (dropped_of r at index i h) (λ x k. dropped g t at canon x x.ownership k))
 taken_keeps g t at canon resource index i (Ok x) h is e numbers =
     dropped_keeps g t at canon index i x x.ownership h is (dropped_there (entry_of i index) resource x e) refl numbers
-taken_keeps g t at canon resource index i (Err why) h is e numbers = tt
+taken_keeps g t at canon resource index i (Err why) h is e numbers = traps_put h at i is
 
 pub resource_drop_keeps : (g : Views) (t : ℕ) (at : ℕ) (canon : ℕ) (resource : ℕ) (words : List ℕ) (h : Held) → NumbersThere h → KeptBy h (resource_drop g t at canon resource words h)
 unfolding resource_drop

@@ -8,7 +8,7 @@ use Rattle.tasks.specs.declared.event.TaskTrap.{TaskTrap}
 use Rattle.tasks.specs.declared.event.TaskTrap.TheVariants as task_trap
 use Rattle.tasks.specs.declared.subtask_state.SubtaskState.TheVariants as state
 use Rattle.tasks.specs.Tasks as tasks
-use Rattle.tasks.specs.Tasks.{is_asked, is_sync, is_told, resolving_fault}
+use Rattle.tasks.specs.Tasks.{is_asked, is_sync, is_told, resolving_fault, fault}
 use Rattle.tasks.specs.Views.{TaskView}
 use Rattle.task_table.specs.declared.slot.TaskSlot.{TaskSlot}
 use Rattle.task_table.specs.Slots as slots
@@ -26,7 +26,7 @@ use Rattle.world_parts.specs.Calls.{blocked_in}
 use Rattle.world_parts.specs.Plain.{backpressure_dec, backpressure_inc, backpressure_set, context_get, context_put, return_asked, returned, task_cancel, task_yield, yield_cancelled}
 use Rattle.standing.proofs.States.{returned_is_returned, cancelled_is_cancelled}
 use Rattle.run_laws.specs.keeping.Kept.{AskedAreOpen}
-use Rattle.run_laws.proofs.keeping.Others.{KeptBy, keeps_after, keeps_given, keeps_if, keeps_same, keeps_through, look_keeps}
+use Rattle.run_laws.proofs.keeping.Others.{KeptBy, keeps_after, keeps_given, keeps_if, keeps_same, keeps_through, look_keeps, traps_there}
 use Rattle.run_laws.proofs.keeping.Changes.{TaskAlike}
 use Rattle.run_laws.proofs.keeping.Alike.{same_task, acted_keeps}
 use Rattle.run_laws.proofs.keeping.Rises.{raised_keeps, raised_last}
@@ -75,7 +75,7 @@ returned_keeps t value h =
     look_keeps h (slice_get h.tasks t) (λ x. happened (event_answer event.Return x.task) t (advanced_slot event.Return x) h)
     (λ done k. after (told (line.Return t value) k) (λ done l. raised t state.Returned l))
     (λ x is.
-    acted_keeps h h t event.Return x (λ done k. after (told (line.Return t value) k) (λ done l. raised t state.Returned l))
+    acted_keeps h h t event.Return x (λ done k. after (told (line.Return t value) k) (λ done l. raised t state.Returned l)) (traps_there h t x (fault event.Return x.task) is)
     (λ may none.
     let later : TaskView = tasks.after event.Return x.task in
     let k : Held = with_task t (slots.with_task later x) h in
@@ -96,6 +96,7 @@ task_cancel_keeps t h =
     (λ done k. after (told (line.Cancelled t) k) (λ done l. after (raised t state.CancelledBeforeReturned l) (λ done m. got t [] m)))
     (λ x is.
     acted_keeps h h t event.Cancel x (λ done k. after (told (line.Cancelled t) k) (λ done l. after (raised t state.CancelledBeforeReturned l) (λ done m. got t [] m)))
+    (traps_there h t x (fault event.Cancel x.task) is)
     (λ may none.
     let later : TaskView = tasks.after event.Cancel x.task in
     let k : Held = with_task t (slots.with_task later x) h in

@@ -47,7 +47,7 @@ use Rattle.standing.specs.KeptMarks.{runs_at}
 use Rattle.standing.proofs.Agreeing.{get_set}
 use Rattle.standing.proofs.States.{states_stay, blocked_stays}
 use Rattle.standing.proofs.marks.Tables.{put_same}
-use Rattle.run_laws.proofs.keeping.Others.{Keeps, KeptBy, keeps_all, keeps_same, keeps_after, keeps_given, keeps_if, keeps_through, look_keeps, found_keeps}
+use Rattle.run_laws.proofs.keeping.Others.{Keeps, KeptBy, keeps_all, keeps_same, keeps_after, keeps_given, keeps_if, keeps_through, look_keeps, found_keeps, traps_same, never_traps, TrapsLent}
 use Rattle.run_laws.proofs.keeping.Changes.{instance_keeps, task_keeps, lends_alike, borrows_alike, awaited_stands, states_alike, waits_there, waits_not, waits_elsewhere}
 use Rattle.run_laws.proofs.keeping.Tables.{idled_alike}
 use Rattle.run_laws.proofs.keeping.Alike.{same_task, acting_waits_not, acted_keeps}
@@ -68,13 +68,13 @@ pub record Quiet (h k : Held) (at index : ℕ) : Type 0 where
 
 abbrev pub QuietBy : {A : Type 0} → Held → ℕ → ℕ → Done A → Type 0
 QuietBy h at index (Gives x k) = Quiet h k at index
-QuietBy h at index (Traps why k) = Unit {0}
+QuietBy h at index (Traps why k) = TrapsLent h k
 QuietBy h at index (Spent k) = Unit {0}
 QuietBy h at index Stuck = Unit {0}
 
 quiet_then : {A B : Type 0} (h : Held) (at index : ℕ) (d : Done A) (f : A → Held → Done B) → QuietBy h at index d → ((x : A) (k : Held) → Quiet h k at index → KeptBy k (f x k)) → KeptBy h (after d f)
 quiet_then h at index (Gives x k) f q p = keeps_through h k (f x k) q.keeps (p x k q)
-quiet_then h at index (Traps why k) f q p = tt
+quiet_then h at index (Traps why k) f q p = q
 quiet_then h at index (Spent k) f q p = tt
 quiet_then h at index Stuck f q p = tt
 
@@ -190,7 +190,7 @@ copy_waits t canon at index flag h runs none =
     (λ done m. after (told (line.Block t (reason.Copy index)) m) (λ done n. left_chain n))
     (λ y found.
     let same : y ≡ z = some_same (sym found ∙ get_set h.tasks t x z is) in
-    acted_keeps k k t (event.Block (blocked_at.Copy index) flag) y (λ done m. after (told (line.Block t (reason.Copy index)) m) (λ done n. left_chain n))
+    acted_keeps k k t (event.Block (blocked_at.Copy index) flag) y (λ done m. after (told (line.Block t (reason.Copy index)) m) (λ done n. left_chain n)) (never_traps k k t y)
     (λ acts none_bad.
     let m : Held = with_task t (at_copy index flag y) k in
     keeps_through k m (after (told (line.Block t (reason.Copy index)) m) (λ done n. left_chain n))
@@ -237,8 +237,8 @@ well_quiet (Some element) memory place count h at index =
     by_tests : (b c d : Bool) (h : Held) (at index : ℕ)
         → QuietBy h at index (if b then Gives (tt {0}) h else if c then Traps trap.Misaligned h else if d then Traps trap.Bounds h else Gives (tt {0}) h)
     by_tests true c d h at index = same_quiet h at index
-    by_tests false true d h at index = tt
-    by_tests false false true h at index = tt
+    by_tests false true d h at index = traps_same h
+    by_tests false false true h at index = traps_same h
     by_tests false false false h at index = same_quiet h at index
 
 placed_and_met_keeps : (g : Views) (element : Option ValType) (c : CopyCall) (number : ℕ) (is_inside : Bool) (h : Held) → RunsThere h c.task c.at → NoSubtask h c.at c.index
@@ -248,16 +248,16 @@ placed_and_met_keeps g element c number is_inside h runs none =
     quiet_then h c.at c.index (placed_well element (memory_of (g.options c.canon) h) c.place c.length h) (λ done k. if is_inside then Traps trap.SameInstance k else meets g c number k)
     (well_quiet element (memory_of (g.options c.canon) h) c.place c.length h c.at c.index)
     (λ done k q.
-    keeps_if k is_inside (Traps trap.SameInstance k) (meets g c number k) tt (meets_keeps g c number k (still_runs h k c.task c.at q.tasks runs) (q.none none)))
+    keeps_if k is_inside (Traps trap.SameInstance k) (meets g c number k) (traps_same k) (meets_keeps g c number k (still_runs h k c.task c.at q.tasks runs) (q.none none)))
 
 copy_tested_keeps : (g : Views) (element : Option ValType) (c : CopyCall) (number : ℕ) (x : Channel) (h : Held) → RunsThere h c.task c.at → NoSubtask h c.at c.index
     → KeptBy h (copy_tested g element c number x h)
 copy_tested_keeps g element c number x h runs none =
     keeps_if h (is_copying (channel_end c.side x.ends)) (Traps trap.Busy h)
-    (if (channel_end c.side x.ends).done then Traps trap.DoneEnd h else if nat_lt most_elements c.length then Traps trap.TooLong h else placed_and_met g element c number (is_within g c.at c.side element x.ends) h) tt
+    (if (channel_end c.side x.ends).done then Traps trap.DoneEnd h else if nat_lt most_elements c.length then Traps trap.TooLong h else placed_and_met g element c number (is_within g c.at c.side element x.ends) h) (traps_same h)
     (keeps_if h ((channel_end c.side x.ends).done) (Traps trap.DoneEnd h)
-    (if nat_lt most_elements c.length then Traps trap.TooLong h else placed_and_met g element c number (is_within g c.at c.side element x.ends) h) tt
-    (keeps_if h (nat_lt most_elements c.length) (Traps trap.TooLong h) (placed_and_met g element c number (is_within g c.at c.side element x.ends) h) tt
+    (if nat_lt most_elements c.length then Traps trap.TooLong h else placed_and_met g element c number (is_within g c.at c.side element x.ends) h) (traps_same h)
+    (keeps_if h (nat_lt most_elements c.length) (Traps trap.TooLong h) (placed_and_met g element c number (is_within g c.at c.side element x.ends) h) (traps_same h)
     (placed_and_met_keeps g element c number (is_within g c.at c.side element x.ends) h runs none)))
 
 read_or_write_keeps : (g : Views) (element : Option ValType) (c : CopyCall) (h : Held) → RunsThere h c.task c.at → KeptBy h (read_or_write g element c h)

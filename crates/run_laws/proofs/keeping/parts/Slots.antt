@@ -12,7 +12,7 @@ use Rattle.tasks.specs.declared.phase.Phase.{Phase}
 use Rattle.tasks.specs.declared.phase.Resolution.{Resolution}
 use Rattle.tasks.specs.declared.phase.Resolution.TheVariants as resolution
 use Rattle.tasks.specs.Tasks as tasks
-use Rattle.tasks.specs.Tasks.{is_asked, is_unasked, may_cancel, state_of, resolved_state}
+use Rattle.tasks.specs.Tasks.{is_asked, is_unasked, may_cancel, state_of, resolved_state, fault}
 use Rattle.tasks.specs.Subtasks.{code_of, is_over}
 use Rattle.task_table.specs.declared.errand.Errand.{Errand}
 use Rattle.task_table.specs.declared.slot.TaskSlot.{TaskSlot}
@@ -23,7 +23,7 @@ use Rattle.task_table.specs.Tasks.{with_number, without, unwatched, watching, pa
 use Rattle.world_parts.specs.Held.{Held, Gives, Stuck, after, given}
 use Rattle.world_parts.specs.Gates.{entry_is_free}
 use Rattle.world_parts.specs.Slots.{asked, call_made, callee_of, cancellable, closed, context_of, context_set, delivered, errand_of, errand_set, happened, happens, instance_of, kind_of, lends_found, next_task, parked, payload_found, phase_of, resolution_of, resolved, result_found, result_kept, task_made, to_be_told, unasked, unparked, with_task, word_in, word_of, words_of, words_set}
-use Rattle.run_laws.proofs.keeping.Others.{KeptBy}
+use Rattle.run_laws.proofs.keeping.Others.{KeptBy, never_traps, traps_there}
 use Rattle.standing.specs.Marks.{StateMarked}
 use Rattle.standing.proofs.States.{states_stay, keeping_stays}
 use Rattle.run_laws.specs.keeping.Kept.{NumbersThere, AskedAreOpen}
@@ -93,13 +93,13 @@ words_of_keeps t h =
 pub blocks_keeps : (t : ℕ) (why : BlockedAt) (flag : Bool) (h : Held) → IsIndirect why → KeptBy h (happens t (event.Block why flag) h)
 blocks_keeps t why flag h q =
     keeps_given h (slice_get h.tasks t) (λ slot. happened (event_answer (event.Block why flag) slot.task) t (advanced_slot (event.Block why flag) slot) h)
-    (λ slot is. happened_keeps h h t (event.Block why flag) slot (λ may none. blocked_there h t why flag slot is q may))
+    (λ slot is. happened_keeps h h t (event.Block why flag) slot (never_traps h h t slot) (λ may none. blocked_there h t why flag slot is q may))
 
 pub return_asked_happens : (t : ℕ) (h : Held) → KeptBy h (happens t event.AskReturn h)
 return_asked_happens t h =
     keeps_given h (slice_get h.tasks t) (λ slot. happened (event_answer event.AskReturn slot.task) t (advanced_slot event.AskReturn slot) h)
     (λ slot is.
-    happened_keeps h h t event.AskReturn slot (λ may none. task_keeps h t slot (slots.with_task slot.task slot) is (same_task slot (slots.with_task slot.task slot) refl refl refl refl refl) (λ m. m)))
+    happened_keeps h h t event.AskReturn slot (traps_there h t slot (fault event.AskReturn slot.task) is) (λ may none. task_keeps h t slot (slots.with_task slot.task slot) is (same_task slot (slots.with_task slot.task slot) refl refl refl refl refl) (λ m. m)))
 
 -- It hears of its cancellation, which was asked, so that it was not cancelled before.
 told_state : (c d : Cancellation) (r : Option Resolution) (p : Phase) → is_asked c ≡ true → (r ≡ Some resolution.Cancelled → is_asked c ≡ false) → resolved_state d r p ≡ resolved_state c r p
@@ -111,7 +111,7 @@ pub told_cancel_keeps : (t : ℕ) (h : Held) → AskedAreOpen h → KeptBy h (ha
 told_cancel_keeps t h still =
     keeps_given h (slice_get h.tasks t) (λ slot. happened (event_answer event.ToldCancel slot.task) t (advanced_slot event.ToldCancel slot) h)
     (λ slot is.
-    happened_keeps h h t event.ToldCancel slot
+    happened_keeps h h t event.ToldCancel slot (never_traps h h t slot)
     (λ may none.
     let y : TaskSlot = slots.with_task (tasks.after event.ToldCancel slot.task) slot in
     task_keeps h t slot y is (same_task slot y refl refl refl refl refl)

@@ -39,7 +39,7 @@ use Rattle.world_parts.specs.Subtasks.{removed, cancelled_by, cancelled, subtask
 use Rattle.abi_machine.proofs.sound.Found.{some_same}
 use Rattle.standing.specs.KeptMarks.{is_borrow_of}
 use Rattle.standing.proofs.States.{states_stay}
-use Rattle.run_laws.proofs.keeping.Others.{Keeps, KeptBy, look_keeps, look_further, found_keeps, tested_keeps, keeps_after, keeps_all, keeps_given, keeps_if, keeps_through}
+use Rattle.run_laws.proofs.keeping.Others.{Keeps, KeptBy, look_keeps, look_further, found_keeps, tested_keeps, keeps_after, keeps_all, keeps_given, keeps_if, keeps_through, traps_same}
 use Rattle.run_laws.proofs.keeping.Changes.{same_keeps, task_keeps}
 use Rattle.run_laws.proofs.keeping.Alike.{same_task, waits_alike}
 use Rattle.run_laws.proofs.keeping.Rises.{raised_keeps}
@@ -188,9 +188,9 @@ subtask_cancel_keeps t at canon words h =
     if is_delivered then Traps trap.Delivered l else after (unasked callee l) (λ is_unasked m. if not is_unasked then Traps trap.Asked m else subtask_asked t callee canon index m))
     (delivered_keeps callee k)
     (λ is_delivered l.
-    keeps_if l is_delivered (Traps trap.Delivered l) (after (unasked callee l) (λ is_unasked m. if not is_unasked then Traps trap.Asked m else subtask_asked t callee canon index m)) tt
+    keeps_if l is_delivered (Traps trap.Delivered l) (after (unasked callee l) (λ is_unasked m. if not is_unasked then Traps trap.Asked m else subtask_asked t callee canon index m)) (traps_same l)
     (keeps_after l (unasked callee l) (λ is_unasked m. if not is_unasked then Traps trap.Asked m else subtask_asked t callee canon index m) (unasked_keeps callee l)
-    (λ is_unasked m. keeps_if m (not is_unasked) (Traps trap.Asked m) (subtask_asked t callee canon index m) tt (subtask_asked_keeps t callee canon index m))))))
+    (λ is_unasked m. keeps_if m (not is_unasked) (Traps trap.Asked m) (subtask_asked t callee canon index m) (traps_same m) (subtask_asked_keeps t callee canon index m))))))
 
 -- The subtask that leaves stood at the index.
 pub subtask_stands : (o : Option WorldEntry) (callee : ℕ) → subtask_in o ≡ Ok callee → o ≡ Some (entry.Subtask callee)
@@ -221,7 +221,7 @@ subtask_drop_keeps t at words h =
     look_keeps h (called_of x.caller) (λ called. Gives (is_over called.subtask.told) h)
     (λ is_delivered l. if not is_delivered then Traps trap.NotDelivered l else after (set_left at index l) (λ done m. after (entry_removed at index m) (λ done n. got t [] n)))
     (λ called by.
-    keeps_if h (not (is_over called.subtask.told)) (Traps trap.NotDelivered h) (after (set_left at index h) (λ done m. after (entry_removed at index m) (λ done n. got t [] n))) tt
+    keeps_if h (not (is_over called.subtask.told)) (Traps trap.NotDelivered h) (after (set_left at index h) (λ done m. after (entry_removed at index m) (λ done n. got t [] n))) (traps_same h)
     (left_and_gone at index h (λ n. got t [] n)
     (λ j here n. ap (λ (y : InstanceView). is_borrow_of n (entry_of y index)) (some_same (sym here ∙ is)) ∙ ap (is_borrow_of n) (subtask_stands (entry_of i index) callee found))
     (λ n. got_keeps t [] n)))))))

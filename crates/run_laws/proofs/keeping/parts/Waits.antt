@@ -30,7 +30,7 @@ use Rattle.abi_machine.proofs.sound.Found.{some_same}
 use Rattle.standing.specs.KeptMarks.{is_borrow_of}
 use Rattle.standing.proofs.marks.Tables.{put_same}
 use Rattle.run_laws.specs.keeping.Kept.{TableIsSound, SubtasksAreOwn, ToldGaveBack, AskedAreOpen}
-use Rattle.run_laws.proofs.keeping.Others.{KeptBy, keeps_after, keeps_given, keeps_if, keeps_through, look_keeps, found_keeps}
+use Rattle.run_laws.proofs.keeping.Others.{KeptBy, keeps_after, keeps_given, keeps_if, keeps_through, look_keeps, found_keeps, traps_same}
 use Rattle.run_laws.proofs.keeping.Changes.{same_keeps}
 use Rattle.run_laws.proofs.keeping.parts.Calls.{blocked_in_keeps}
 use Rattle.run_laws.proofs.keeping.parts.Entries.{NotBorrow, other_added_keeps, entry_removed_keeps, set_found_keeps, set_joined_keeps, set_left_keeps, set_made_keeps, set_waited_on_keeps, waitable_found_keeps}
@@ -60,7 +60,7 @@ dropped_set_keeps : (t at index : ℕ) (r : Result (Unit {0}) DropSetError) (k :
 dropped_set_keeps t at index (Ok done) k none =
     keeps_after k (entry_removed at index k) (λ done m. got t [] m) (entry_removed_keeps at index k none) (λ done m. got_keeps t [] m)
 dropped_set_keeps t at index (Err drop_error.NoSet) k none = tt
-dropped_set_keeps t at index (Err (drop_error.Refused why)) k none = tt
+dropped_set_keeps t at index (Err (drop_error.Refused why)) k none = traps_same k
 
 pub set_drop_keeps : (t at : ℕ) (words : List ℕ) (h : Held) → KeptBy h (set_drop t at words h)
 unfolding set_drop
@@ -138,8 +138,8 @@ placed_keeps : (g : Views) (t at canon : ℕ) (op : WaitOp) (index place set : �
     → KeptBy h (if not (nat_eq (place % 4) 0) then Traps trap.Misaligned h else if nat_lt (length (bytes_at (memory_of (g.options canon) h) h.store)) (place + 8) then Traps trap.Bounds h else waited g t at canon op index place set h)
 placed_keeps g t at canon op index place set h own gave still =
     keeps_if h (not (nat_eq (place % 4) 0)) (Traps trap.Misaligned h)
-    (if nat_lt (length (bytes_at (memory_of (g.options canon) h) h.store)) (place + 8) then Traps trap.Bounds h else waited g t at canon op index place set h) tt
-    (keeps_if h (nat_lt (length (bytes_at (memory_of (g.options canon) h) h.store)) (place + 8)) (Traps trap.Bounds h) (waited g t at canon op index place set h) tt
+    (if nat_lt (length (bytes_at (memory_of (g.options canon) h) h.store)) (place + 8) then Traps trap.Bounds h else waited g t at canon op index place set h) (traps_same h)
+    (keeps_if h (nat_lt (length (bytes_at (memory_of (g.options canon) h) h.store)) (place + 8)) (Traps trap.Bounds h) (waited g t at canon op index place set h) (traps_same h)
     (waited_keeps g t at canon op index place set h own gave still))
 
 pub set_wait_keeps : (g : Views) (t at canon : ℕ) (op : WaitOp) (words : List ℕ) (h : Held) → SubtasksAreOwn h at → ToldGaveBack h → AskedAreOpen h

@@ -17,7 +17,7 @@ use Rattle.replies.specs.Replies.{may_leave, begun}
 use Rattle.machine_runs.specs.Calling.{allowed, allowed_by, calls, canon_answered, kind_answered}
 use Rattle.builtin_kinds.specs.declared.EndKind.{EndKind}
 use Rattle.run_laws.specs.keeping.Still.{TypesFit}
-use Rattle.run_laws.proofs.keeping.still.Still.{Kinds, StillBy, still_after, still_given, still_if}
+use Rattle.run_laws.proofs.keeping.still.Still.{Kinds, StillBy, still_after, still_given, still_if, ends_same}
 use Rattle.run_laws.proofs.keeping.still.EndReplies.{end_reply_still}
 use Rattle.run_laws.proofs.keeping.still.Exempt.{exempt_answer_still}
 use Rattle.run_laws.proofs.keeping.still.Replying.{answered_still, begun_still}
@@ -49,7 +49,7 @@ pub allowed_by_still : (W : Kinds) → (g : Graph) (types : List (Option ℕ)) (
 allowed_by_still W g types t number c words (Some answer) h fit =
     got_still W t answer h
 allowed_by_still W g types t number c words None h fit =
-    still_if W h (may_leave h) (canon_answered g types t number c words h) (Traps trap.CannotLeave h) (canon_answered_still W g types t number c words h fit) tt
+    still_if W h (may_leave h) (canon_answered g types t number c words h) (Traps trap.CannotLeave h) (canon_answered_still W g types t number c words h fit) (ends_same W h)
 
 pub allowed_still : (W : Kinds) → (g : Graph) (types : List (Option ℕ)) (t : ℕ) (number : ℕ) (c : CanonFunc) (words : List ℕ) (h : Held) → ((K : ℕ → EndKind) → W ≡ Some K → TypesFit g types K) → StillBy W h (allowed g types t number c words h)
 unfolding allowed

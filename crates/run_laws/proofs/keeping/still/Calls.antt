@@ -42,7 +42,7 @@ blocked_in_still W t canon flag why reason h =
 pub call_begun_still : (W : Kinds) → (t : ℕ) (canon : ℕ) (callee : Callee) (instance : ℕ) (kind : Kind) (words : List ℕ) (h : Held) → StillBy W h (call_begun t canon callee instance kind words h)
 unfolding call_begun
 call_begun_still W t canon callee instance kind words h =
-    still_if W h (reenters instance t h) (Traps trap.Reentrant h) (after (next_task h) (λ made k. after (errand_set t (errand.AfterCall made canon) k) (λ done l. after (task_made (new_slot instance kind callee (Guest (new_called t canon words made))) l) (λ number m. after (told (line.Call t made (instance + 1)) m) (λ done n. after (chained made n) (λ done o. Gives flow.Rests (at_rest rest.Arrives o))))))) tt (still_after W h (next_task h) (λ made k. after (errand_set t (errand.AfterCall made canon) k) (λ done l. after (task_made (new_slot instance kind callee (Guest (new_called t canon words made))) l) (λ number m. after (told (line.Call t made (instance + 1)) m) (λ done n. after (chained made n) (λ done o. Gives flow.Rests (at_rest rest.Arrives o)))))) (next_task_still W h) (λ made k. still_after W k (errand_set t (errand.AfterCall made canon) k) (λ done l. after (task_made (new_slot instance kind callee (Guest (new_called t canon words made))) l) (λ number m. after (told (line.Call t made (instance + 1)) m) (λ done n. after (chained made n) (λ done o. Gives flow.Rests (at_rest rest.Arrives o))))) (errand_set_still W t (errand.AfterCall made canon) k) (λ done l. still_after W l (task_made (new_slot instance kind callee (Guest (new_called t canon words made))) l) (λ number m. after (told (line.Call t made (instance + 1)) m) (λ done n. after (chained made n) (λ done o. Gives flow.Rests (at_rest rest.Arrives o)))) (task_made_still W (new_slot instance kind callee (Guest (new_called t canon words made))) l) (λ number m. still_after W m (told (line.Call t made (instance + 1)) m) (λ done n. after (chained made n) (λ done o. Gives flow.Rests (at_rest rest.Arrives o))) (told_still W (line.Call t made (instance + 1)) m) (λ done n. still_after W n (chained made n) (λ done o. Gives flow.Rests (at_rest rest.Arrives o)) (chained_still W made n) (λ done o. still_all W o (at_rest rest.Arrives o) refl refl refl refl refl))))))
+    still_if W h (reenters instance t h) (Traps trap.Reentrant h) (after (next_task h) (λ made k. after (errand_set t (errand.AfterCall made canon) k) (λ done l. after (task_made (new_slot instance kind callee (Guest (new_called t canon words made))) l) (λ number m. after (told (line.Call t made (instance + 1)) m) (λ done n. after (chained made n) (λ done o. Gives flow.Rests (at_rest rest.Arrives o))))))) (λ K asked kept. kept) (still_after W h (next_task h) (λ made k. after (errand_set t (errand.AfterCall made canon) k) (λ done l. after (task_made (new_slot instance kind callee (Guest (new_called t canon words made))) l) (λ number m. after (told (line.Call t made (instance + 1)) m) (λ done n. after (chained made n) (λ done o. Gives flow.Rests (at_rest rest.Arrives o)))))) (next_task_still W h) (λ made k. still_after W k (errand_set t (errand.AfterCall made canon) k) (λ done l. after (task_made (new_slot instance kind callee (Guest (new_called t canon words made))) l) (λ number m. after (told (line.Call t made (instance + 1)) m) (λ done n. after (chained made n) (λ done o. Gives flow.Rests (at_rest rest.Arrives o))))) (errand_set_still W t (errand.AfterCall made canon) k) (λ done l. still_after W l (task_made (new_slot instance kind callee (Guest (new_called t canon words made))) l) (λ number m. after (told (line.Call t made (instance + 1)) m) (λ done n. after (chained made n) (λ done o. Gives flow.Rests (at_rest rest.Arrives o)))) (task_made_still W (new_slot instance kind callee (Guest (new_called t canon words made))) l) (λ number m. still_after W m (told (line.Call t made (instance + 1)) m) (λ done n. after (chained made n) (λ done o. Gives flow.Rests (at_rest rest.Arrives o))) (told_still W (line.Call t made (instance + 1)) m) (λ done n. still_after W n (chained made n) (λ done o. Gives flow.Rests (at_rest rest.Arrives o)) (chained_still W made n) (λ done o. still_all W o (at_rest rest.Arrives o) refl refl refl refl refl))))))
 
 pub unlent_still : (W : Kinds) → (at : ℕ) (callee : ℕ) (handle : ℕ) (h : Held) → StillBy W h (unlent at callee handle h)
 unlent_still W at callee handle h =

@@ -32,7 +32,7 @@ dropped_end_still t at index kind side number h =
 
 pub drop_tested_still : (t : ℕ) (at : ℕ) (index : ℕ) (kind : EndKind) (side : Side) (number : ℕ) (e : End) (h : Held) → StillBy no_kinds h (drop_tested t at index kind side number e h)
 drop_tested_still t at index kind side number e h =
-    still_if no_kinds h (is_copying e) (Traps trap.Busy h) (if is_unwritten kind side e.done then Traps trap.UnwrittenFuture h else dropped_end t at index kind side number h) tt (still_if no_kinds h (is_unwritten kind side e.done) (Traps trap.UnwrittenFuture h) (dropped_end t at index kind side number h) tt (dropped_end_still t at index kind side number h))
+    still_if no_kinds h (is_copying e) (Traps trap.Busy h) (if is_unwritten kind side e.done then Traps trap.UnwrittenFuture h else dropped_end t at index kind side number h) (λ K asked kept. kept) (still_if no_kinds h (is_unwritten kind side e.done) (Traps trap.UnwrittenFuture h) (dropped_end t at index kind side number h) (λ K asked kept. kept) (dropped_end_still t at index kind side number h))
 
 pub end_drop_still : (t : ℕ) (at : ℕ) (kind : EndKind) (side : Side) (type : ℕ) (words : List ℕ) (h : Held) → StillBy no_kinds h (end_drop t at kind side type words h)
 unfolding end_drop
@@ -47,4 +47,4 @@ copy_given_up_still t at index kind side number h =
 pub copy_cancel_still : (g : Views) (t : ℕ) (at : ℕ) (kind : EndKind) (side : Side) (type : ℕ) (words : List ℕ) (h : Held) → StillBy no_kinds h (copy_cancel g t at kind side type words h)
 unfolding copy_cancel
 copy_cancel_still g t at kind side type words h =
-    still_given no_kinds h (word_in words 0) (λ index. after (end_found at side type index h) (λ e k. given (channel_at kind e.number k) (λ c. if not (copy_is_async g (end_in side c.ends).copy) then Traps trap.NotCopying k else copy_given_up t at index kind side e.number k))) (λ index is. still_after no_kinds h (end_found at side type index h) (λ e k. given (channel_at kind e.number k) (λ c. if not (copy_is_async g (end_in side c.ends).copy) then Traps trap.NotCopying k else copy_given_up t at index kind side e.number k)) (end_found_still no_kinds at side type index h) (λ e k. still_given no_kinds k (channel_at kind e.number k) (λ c. if not (copy_is_async g (end_in side c.ends).copy) then Traps trap.NotCopying k else copy_given_up t at index kind side e.number k) (λ c is. still_if no_kinds k (not (copy_is_async g (end_in side c.ends).copy)) (Traps trap.NotCopying k) (copy_given_up t at index kind side e.number k) tt (copy_given_up_still t at index kind side e.number k))))
+    still_given no_kinds h (word_in words 0) (λ index. after (end_found at side type index h) (λ e k. given (channel_at kind e.number k) (λ c. if not (copy_is_async g (end_in side c.ends).copy) then Traps trap.NotCopying k else copy_given_up t at index kind side e.number k))) (λ index is. still_after no_kinds h (end_found at side type index h) (λ e k. given (channel_at kind e.number k) (λ c. if not (copy_is_async g (end_in side c.ends).copy) then Traps trap.NotCopying k else copy_given_up t at index kind side e.number k)) (end_found_still no_kinds at side type index h) (λ e k. still_given no_kinds k (channel_at kind e.number k) (λ c. if not (copy_is_async g (end_in side c.ends).copy) then Traps trap.NotCopying k else copy_given_up t at index kind side e.number k) (λ c is. still_if no_kinds k (not (copy_is_async g (end_in side c.ends).copy)) (Traps trap.NotCopying k) (copy_given_up t at index kind side e.number k) (λ K asked kept. kept) (copy_given_up_still t at index kind side e.number k))))

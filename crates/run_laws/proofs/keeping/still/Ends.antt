@@ -35,7 +35,7 @@ use Rattle.std.proofs.lemmas.Bool.{cases_eq}
 use Rattle.std.proofs.Common.{inl, inr}
 use Rattle.run_laws.specs.keeping.Ends.{EndAlone}
 use Rattle.run_laws.specs.keeping.Still.{EndsAre, EndsKept}
-use Rattle.run_laws.proofs.keeping.But.{GivesSo}
+use Rattle.run_laws.proofs.keeping.But.{HoldsSo}
 use Rattle.run_laws.proofs.keeping.still.Still.{put_stood, stood_ends}
 use Rattle.run_laws.proofs.keeping.still.Entries.{removed_stood}
 use Rattle.run_laws.proofs.keeping.still.EndsKept.{once_as, idled_stood, are_streams_with, are_futures_with, alone}
@@ -45,11 +45,11 @@ module _ (K : ℕ → EndKind) where
   Kept k = EndsKept K k
 
   -- What follows something that is looked up and known, and a test.
-  pub so_looked : {A B C : Type 0} (o : Option A) (x : A) (f : A → Done B) (c : B → Held → Done C) → o ≡ Some x → GivesSo Kept (after (f x) c) → GivesSo Kept (after (given o f) c)
+  pub so_looked : {A B C : Type 0} (o : Option A) (x : A) (f : A → Done B) (c : B → Held → Done C) → o ≡ Some x → HoldsSo Kept (after (f x) c) → HoldsSo Kept (after (given o f) c)
   so_looked None x f c is p = absurd (cc)
-  so_looked {A} (Some y) x f c is p = subst (λ (z : A). GivesSo Kept (after (f z) c)) (sym (some_same is)) p
+  so_looked {A} (Some y) x f c is p = subst (λ (z : A). HoldsSo Kept (after (f z) c)) (sym (some_same is)) p
 
-  so_tested : {A B : Type 0} (b : Bool) (d : Done A) (c : A → Held → Done B) → GivesSo Kept (after d c) → GivesSo Kept (after (if b then d else Stuck) c)
+  so_tested : {A B : Type 0} (b : Bool) (d : Done A) (c : A → Held → Done B) → HoldsSo Kept (after d c) → HoldsSo Kept (after (if b then d else Stuck) c)
   so_tested true d c p = p
   so_tested false d c p = tt
 
@@ -163,7 +163,7 @@ module _ (K : ℕ → EndKind) where
 
   -- An end leaves the table, and its stream or future knows.
   pub dropped_so : (h : Held) (t at index : ℕ) (kind : EndKind) (side : Side) (x : InstanceView) (e : EndEntry) (place : ℕ) (c : Channel) → Known h at index kind side x e place c → Kept h
-      → GivesSo Kept (dropped_end t at index kind side e.number h)
+      → HoldsSo Kept (dropped_end t at index kind side e.number h)
   unfolding dropped_end
   dropped_so h t at index kind side x e place c known kept =
       let y : InstanceView = with_sets (left index x.sets) x in
@@ -186,9 +186,9 @@ module _ (K : ℕ → EndKind) where
     where
       removed : (o : Option WorldEntry) → o ≡ Some (entry.End e)
           → (let y : InstanceView = with_sets (left index x.sets) x in
-          let l : Held = with_instance at (instance.entry_removed index y) (with_instance at y h) in GivesSo Kept (after (end_dropped kind side e.number l) (λ done m. got t [] m)))
+          let l : Held = with_instance at (instance.entry_removed index y) (with_instance at y h) in HoldsSo Kept (after (end_dropped kind side e.number l) (λ done m. got t [] m)))
           → (let y : InstanceView = with_sets (left index x.sets) x in
-          GivesSo Kept (after (removed_of o at index y (with_instance at y h)) (λ done l. after (end_dropped kind side e.number l) (λ done m. got t [] m))))
+          HoldsSo Kept (after (removed_of o at index y (with_instance at y h)) (λ done l. after (end_dropped kind side e.number l) (λ done m. got t [] m))))
       removed None is p = tt
       removed (Some d) is p = p
 
@@ -197,19 +197,19 @@ module _ (K : ℕ → EndKind) where
   end_of f g q = cc
 
   idled_so : {A : Type 0} (at index : ℕ) (e : EndEntry) (x : InstanceView) (o : Option WorldEntry) (b : Bool) (k : Held) (c : Unit {0} → Held → Done A) → o ≡ Some (entry.End e)
-      → GivesSo Kept (c tt (with_instance at (instance.entry_changed index (entry.End (with_idle b e)) x) k))
-      → GivesSo Kept (after (if is_some (any_end_in o) then Gives (tt {0}) (with_instance at (instance.end_idled index b (any_end_in o) x) k) else Stuck) c)
+      → HoldsSo Kept (c tt (with_instance at (instance.entry_changed index (entry.End (with_idle b e)) x) k))
+      → HoldsSo Kept (after (if is_some (any_end_in o) then Gives (tt {0}) (with_instance at (instance.end_idled index b (any_end_in o) x) k) else Stuck) c)
   idled_so at index e x None b k c is p = tt
   idled_so at index e x (Some (entry.Handle y)) b k c is p = tt
   idled_so at index e x (Some (entry.Subtask callee)) b k c is p = tt
   idled_so at index e x (Some (entry.Set set)) b k c is p = tt
   idled_so at index e x (Some (entry.End d)) b k c is p =
-      subst (λ (f : EndEntry). GivesSo Kept (c tt (with_instance at (instance.entry_changed index (entry.End (with_idle b f)) x) k))) (sym (end_of d e (some_same is))) p
+      subst (λ (f : EndEntry). HoldsSo Kept (c tt (with_instance at (instance.entry_changed index (entry.End (with_idle b f)) x) k))) (sym (end_of d e (some_same is))) p
 
   pub said_so : {A : Type 0} (h : Held) (at index : ℕ) (kind : EndKind) (side : Side) (x : InstanceView) (e : EndEntry) (place : ℕ) (c z : Channel) (more : Unit {0} → Held → Done A)
       → Known h at index kind side x e place c → Kept h → kind_of z.ends ≡ kind_of c.ends → z.end_type ≡ c.end_type
-      → is_idle (end_in (other_side e.side) z.ends) ≡ is_idle (end_in (other_side e.side) c.ends) → ((k : Held) → Kept k → GivesSo Kept (more tt k))
-      → GivesSo Kept (after (idle_seen kind side e.number (with_channel kind place z h)) (λ is_idle l. after (end_idled at index is_idle l) more))
+      → is_idle (end_in (other_side e.side) z.ends) ≡ is_idle (end_in (other_side e.side) c.ends) → ((k : Held) → Kept k → HoldsSo Kept (more tt k))
+      → HoldsSo Kept (after (idle_seen kind side e.number (with_channel kind place z h)) (λ is_idle l. after (end_idled at index is_idle l) more))
   said_so h at index kind side x e place c z more known kept kinds types other goes =
       let k : Held = with_channel kind place z h in
       let now : Held = with_instance at (instance.entry_changed index (entry.End (with_idle (is_idle (end_in side z.ends)) e)) x) k in
@@ -223,8 +223,8 @@ module _ (K : ℕ → EndKind) where
 
   -- Its copy is told.
   pub told_so : {A : Type 0} (h : Held) (at index : ℕ) (kind : EndKind) (side : Side) (x : InstanceView) (e : EndEntry) (place : ℕ) (c : Channel) (more : ℕ → Unit {0} → Held → Done A)
-      → Known h at index kind side x e place c → Kept h → ((payload : ℕ) (k : Held) → Kept k → GivesSo Kept (more payload tt k))
-      → GivesSo Kept (after (concluded kind side e.number h) (λ payload k. after (idle_seen kind side e.number k) (λ is_idle l. after (end_idled at index is_idle l) (more payload))))
+      → Known h at index kind side x e place c → Kept h → ((payload : ℕ) (k : Held) → Kept k → HoldsSo Kept (more payload tt k))
+      → HoldsSo Kept (after (concluded kind side e.number h) (λ payload k. after (idle_seen kind side e.number k) (λ is_idle l. after (end_idled at index is_idle l) (more payload))))
   told_so {A} h at index kind side x e place c more known kept goes =
       so_looked (place_of e.number) place (λ p. concluded_at kind p side h) rest known.number
       (so_looked (slice_get (channels kind h) place) c
@@ -235,7 +235,7 @@ module _ (K : ℕ → EndKind) where
       rest payload k = after (idle_seen kind side e.number k) (λ is_idle l. after (end_idled at index is_idle l) (more payload))
 
       by_copy : (b : Bool)
-          → GivesSo Kept (after (answered (if b then Some (payload_in side c.ends) else None) kind place (if b then with_ends (channel.told side c.ends) c else c) h)
+          → HoldsSo Kept (after (answered (if b then Some (payload_in side c.ends) else None) kind place (if b then with_ends (channel.told side c.ends) c else c) h)
           (λ payload k. after (idle_seen kind side e.number k) (λ is_idle l. after (end_idled at index is_idle l) (more payload))))
       by_copy false = tt
       by_copy true =
@@ -256,29 +256,29 @@ module _ (K : ℕ → EndKind) where
       alone = alone K h at index kind x e place c kept type inst there number found;
     }
 
-    pub end_told_so : {A : Type 0} (more : ℕ → Unit {0} → Held → Done A) → ((payload : ℕ) (k : Held) → Kept k → GivesSo Kept (more payload tt k))
-        → GivesSo Kept (after (concluded kind e.side e.number h) (λ payload k. after (idle_seen kind e.side e.number k) (λ is_idle l. after (end_idled at index is_idle l) (more payload))))
+    pub end_told_so : {A : Type 0} (more : ℕ → Unit {0} → Held → Done A) → ((payload : ℕ) (k : Held) → Kept k → HoldsSo Kept (more payload tt k))
+        → HoldsSo Kept (after (concluded kind e.side e.number h) (λ payload k. after (idle_seen kind e.side e.number k) (λ is_idle l. after (end_idled at index is_idle l) (more payload))))
     end_told_so {A} more goes = by_place (place_of e.number) refl
       where
         rest : ℕ → Held → Done A
         rest payload k = after (idle_seen kind e.side e.number k) (λ is_idle l. after (end_idled at index is_idle l) (more payload))
 
         by_channel : (place : ℕ) (o : Option Channel) → place_of e.number ≡ Some place → slice_get (channels kind h) place ≡ o
-            → GivesSo Kept (after (given o (λ d. answered (if is_copying (end_in e.side d.ends) then Some (payload_in e.side d.ends) else None) kind place
+            → HoldsSo Kept (after (given o (λ d. answered (if is_copying (end_in e.side d.ends) then Some (payload_in e.side d.ends) else None) kind place
             (if is_copying (end_in e.side d.ends) then with_ends (channel.told e.side d.ends) d else d) h)) rest)
         by_channel place None number found = tt
         by_channel place (Some c) number found =
             as_looked place c number found (told_so h at index kind e.side x e place c more (known_at place c number found) kept goes)
           where
-            as_looked : (place : ℕ) (c : Channel) → place_of e.number ≡ Some place → slice_get (channels kind h) place ≡ Some c → GivesSo Kept (after (concluded kind e.side e.number h) rest)
-                → GivesSo Kept (after (answered (if is_copying (end_in e.side c.ends) then Some (payload_in e.side c.ends) else None) kind place
+            as_looked : (place : ℕ) (c : Channel) → place_of e.number ≡ Some place → slice_get (channels kind h) place ≡ Some c → HoldsSo Kept (after (concluded kind e.side e.number h) rest)
+                → HoldsSo Kept (after (answered (if is_copying (end_in e.side c.ends) then Some (payload_in e.side c.ends) else None) kind place
                 (if is_copying (end_in e.side c.ends) then with_ends (channel.told e.side c.ends) c else c) h) rest)
             as_looked place c number found p =
-                subst (λ (d : Done ℕ). GivesSo Kept (after d rest))
+                subst (λ (d : Done ℕ). HoldsSo Kept (after d rest))
                 (ap (λ (o : Option ℕ). given o (λ q. concluded_at kind q e.side h)) number
                 ∙ ap (λ (o : Option Channel). given o (λ d. answered (if is_copying (end_in e.side d.ends) then Some (payload_in e.side d.ends) else None) kind place
                 (if is_copying (end_in e.side d.ends) then with_ends (channel.told e.side d.ends) d else d) h)) found) p
 
-        by_place : (o : Option ℕ) → place_of e.number ≡ o → GivesSo Kept (after (given o (λ q. concluded_at kind q e.side h)) rest)
+        by_place : (o : Option ℕ) → place_of e.number ≡ o → HoldsSo Kept (after (given o (λ q. concluded_at kind q e.side h)) rest)
         by_place None number = tt
         by_place (Some place) number = by_channel place (slice_get (channels kind h) place) number refl

@@ -40,7 +40,7 @@ use Rattle.run_laws.proofs.keeping.Planned as ends
 abbrev some_type : ValType → Option ValType
 some_type t = Some t
 
-parts_rolled : (x : F.ValType-F ValType Case Field) (t : ValType) → roll-ValType x ≡ t → parts_of t ≡ parts_case x
+pub parts_rolled : (x : F.ValType-F ValType Case Field) (t : ValType) → roll-ValType x ≡ t → parts_of t ≡ parts_case x
 parts_rolled x t rolls = ap parts_of (sym rolls) ∙ ap parts_case (out-roll-ValType x)
 
 abbrev part_in_all : List (Option ValType) → ℕ → Option ValType

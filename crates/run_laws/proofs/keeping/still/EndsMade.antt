@@ -26,8 +26,8 @@ use Rattle.standing.specs.Channels.{of_kind, EndMarked}
 use Rattle.standing.proofs.EndMarks.{added_stay_marked, streams_stay_marked, futures_stay_marked}
 use Rattle.standing.proofs.marks.Tables.{filled_either, put_same, put_other}
 use Rattle.run_laws.specs.keeping.Still.{AreOf, EndsKept}
-use Rattle.run_laws.proofs.keeping.But.{GivesSo}
-use Rattle.run_laws.proofs.keeping.still.Still.{Kinds, StillBy}
+use Rattle.run_laws.proofs.keeping.But.{HoldsSo}
+use Rattle.run_laws.proofs.keeping.still.Still.{Kinds, StillBy, still_instance}
 use Rattle.run_laws.proofs.keeping.still.Copies as bare
 use Rattle.run_laws.proofs.keeping.still.EndsKept.{marked_kind}
 use Rattle.run_laws.proofs.keeping.still.EndParts.{joined}
@@ -184,23 +184,27 @@ module _ (K : ℕ → EndKind) where
   sides_apart : Reader ≡ Writer → ⊥
   sides_apart q = cc
 
+  put_ends : (l : Held) (at : ℕ) (x : InstanceView) → slice_get l.instances at ≡ Some x → EndsKept K l → EndsKept K (with_instance at x l)
+  put_ends l at x is kept = (still_instance (Some K) l at x x is refl).ends K refl kept
+
   added_so : {A : Type 0} (Q : Held → Type 0) (at : ℕ) (e : EndEntry) (l : Held) (c : ℕ → Held → Done A)
-      → ((x : InstanceView) → slice_get l.instances at ≡ Some x → GivesSo Q (c (next_of x.slots) (with_instance at (instance.entry_added (entry.End e) x) l)))
-      → GivesSo Q (after (entry_added at (entry.End e) l) c)
-  added_so {A} Q at e l c p = by_inst (slice_get l.instances at) refl
+      → ((x : InstanceView) → slice_get l.instances at ≡ Some x → Q (with_instance at x l))
+      → ((x : InstanceView) → slice_get l.instances at ≡ Some x → HoldsSo Q (c (next_of x.slots) (with_instance at (instance.entry_added (entry.End e) x) l)))
+      → HoldsSo Q (after (entry_added at (entry.End e) l) c)
+  added_so {A} Q at e l c q p = by_inst (slice_get l.instances at) refl
     where
       by_room : (x : InstanceView) (b : Bool) → slice_get l.instances at ≡ Some x
-          → GivesSo Q (after (if b then Gives (next_of x.slots) (with_instance at (instance.entry_added (entry.End e) x) l) else Traps trap.TableFull (with_instance at x l)) c)
+          → HoldsSo Q (after (if b then Gives (next_of x.slots) (with_instance at (instance.entry_added (entry.End e) x) l) else Traps trap.TableFull (with_instance at x l)) c)
       by_room x true is = p x is
-      by_room x false is = tt
+      by_room x false is = q x is
 
       by_inst : (o : Option InstanceView) → slice_get l.instances at ≡ o
-          → GivesSo Q (after (given o (λ i. if nat_lt (count i.slots) most_live then Gives (next_of i.slots) (with_instance at (instance.entry_added (entry.End e) i) l)
+          → HoldsSo Q (after (given o (λ i. if nat_lt (count i.slots) most_live then Gives (next_of i.slots) (with_instance at (instance.entry_added (entry.End e) i) l)
           else Traps trap.TableFull (with_instance at i l))) c)
       by_inst None is = tt
       by_inst (Some x) is = by_room x (nat_lt (count x.slots) most_live) is
 
-  new_ends_so : (t at : ℕ) (kind : EndKind) (type : ℕ) (h : Held) → K type ≡ kind → EndsKept K h → GivesSo (λ (k : Held). EndsKept K k) (channel_new t at kind type h)
+  new_ends_so : (t at : ℕ) (kind : EndKind) (type : ℕ) (h : Held) → K type ≡ kind → EndsKept K h → HoldsSo (λ (k : Held). EndsKept K k) (channel_new t at kind type h)
   unfolding channel_new
   new_ends_so t at kind type h of kept =
       let Kept : Held → Type 0 = λ k. EndsKept K k in
@@ -209,11 +213,11 @@ module _ (K : ℕ → EndKind) where
       let readable : EndEntry = record { side = Reader; end_type = type; number = number; is_idle = true } in
       let writable : EndEntry = record { side = Writer; end_type = type; number = number; is_idle = true } in
       let start : EndsKept K k = made_ends kind type h of kept in
-      added_so Kept at readable k (λ first l. after (entry_added at (new_end Writer type number) l) (λ second m. got t (both_indices first second ∷ []) m))
+      added_so Kept at readable k (λ first l. after (entry_added at (new_end Writer type number) l) (λ second m. got t (both_indices first second ∷ []) m)) (λ x is. put_ends k at x is start)
       (λ x is.
       let l : Held = with_instance at (instance.entry_added (entry.End readable) x) k in
       let one : EndsKept K l = comes k at x readable is (new_marked kind Reader type h) (made_absent kind type number Reader h (absent_first kind type Reader h of kept)) start in
-      added_so Kept at writable l (λ second m. got t (both_indices (next_of x.slots) second ∷ []) m)
+      added_so Kept at writable l (λ second m. got t (both_indices (next_of x.slots) second ∷ []) m) (λ y is_y. put_ends l at y is_y one)
       (λ y is_y.
       comes l at y writable is_y (new_marked kind Writer type h)
       (other_absent k at x readable Writer is sides_apart (made_absent kind type number Writer h (absent_first kind type Writer h of kept))) one))

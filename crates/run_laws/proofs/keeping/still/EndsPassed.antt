@@ -40,7 +40,7 @@ use Rattle.standing.specs.Channels.{HasMarkedEnds, EndMarked}
 use Rattle.run_laws.specs.keeping.Kept.{KeepsMarks, RunsFunction, EntersFree}
 use Rattle.run_laws.specs.keeping.Liftings.{ArgumentsLendWell, ResultLendsWell}
 use Rattle.run_laws.specs.keeping.Lowerings.{EndComes, RunsInOwn, HoldsNoBorrow}
-use Rattle.run_laws.proofs.keeping.But.{HasBut, GivesSo, but_of, marks_of, tables_of, so_given, so_after, so_if}
+use Rattle.run_laws.proofs.keeping.But.{HasBut, LeavesSo, HoldsSo, but_of, marks_of, tables_of, leaves_given, leaves_after, leaves_if, as_holds, right_at}
 use Rattle.run_laws.proofs.keeping.Going.{enters_marks}
 use Rattle.run_laws.proofs.keeping.Lifted.{LiftsSo}
 use Rattle.run_laws.proofs.keeping.Liftings.{arguments_but, ended_but, returned_but}
@@ -76,10 +76,10 @@ use Rattle.run_laws.proofs.keeping.still.Still.{StillBy}
 use Rattle.run_laws.proofs.keeping.still.Going.{loops_still, ending_still}
 
 -- A part that keeps all marks, and leaves tables as they were.
-quiet_but : {A : Type 0} (C : Type 0) (t : ℕ) (h : Held) (d : Done A) → KeepsMarks h d → QuietBy h d → HasBut C t 0 h → GivesSo (LiftsSo C t 0 h) d
+quiet_but : {A : Type 0} (C : Type 0) (t : ℕ) (h : Held) (d : Done A) → KeepsMarks h d → QuietBy h d → HasBut C t 0 h → LeavesSo C (LiftsSo C t 0 h) d
 quiet_but C t h (Gives x k) p q but =
     (but_of C t k (p (marks_of C t h but)) (tables_behind h k q (tables_of C t 0 h but)) (λ c. ends_behind h k q (but.ends c)), q.prior)
-quiet_but C t h (Traps why k) p q but = tt
+quiet_but C t h (Traps why k) p q but = (p (marks_of C t h but), λ c. ends_behind h k q (but.ends c))
 quiet_but C t h (Spent k) p q but = tt
 quiet_but C t h Stuck p q but = tt
 
@@ -97,12 +97,12 @@ lends_behind p t h k q may slot type called c found of by made holds =
     (may b.slot type calls.0 c b.is (ap (λ (x : Callee). params_of p x) (sym b.prior.callee) ∙ of) calls.1 (ap (λ (n : ℕ). canon_at p.graph.now n) (sym calls.3) ∙ made) holds)
 
 -- Behind a part that leaves something so, and gives something that is so.
-behind_two : {A B : Type 0} (P : Held → Type 0) (V : A → Type 0) (Q : Held → Type 0) (h : Held) (d : Done A) (F : A → Held → Done B → Type 0) (e : Done B) → GivesSo P d → AlikeBy V h d
-    → ((x : A) (k : Held) → P k → V x → Alike h k → F x k e → GivesSo Q e) → Behind d F e → GivesSo Q e
-behind_two P V Q h (Gives x k) F e p v more b = more x k p v.0 v.1 b
-behind_two {A} {B} P V Q h (Traps why k) F e p v more b = subst (λ (d : Done B). GivesSo Q d) (sym b) tt
-behind_two {A} {B} P V Q h (Spent k) F e p v more b = subst (λ (d : Done B). GivesSo Q d) (sym b) tt
-behind_two {A} {B} P V Q h Stuck F e p v more b = subst (λ (d : Done B). GivesSo Q d) (sym b) tt
+behind_two : {A B : Type 0} (C : Type 0) (P : Held → Type 0) (V : A → Type 0) (Q : Held → Type 0) (h : Held) (d : Done A) (F : A → Held → Done B → Type 0) (e : Done B) → LeavesSo C P d → AlikeBy V h d
+    → ((x : A) (k : Held) → P k → V x → Alike h k → F x k e → LeavesSo C Q e) → Behind d F e → LeavesSo C Q e
+behind_two C P V Q h (Gives x k) F e p v more b = more x k p v.0 v.1 b
+behind_two {A} {B} C P V Q h (Traps why k) F e p v more b = subst (λ (d : Done B). LeavesSo C Q d) (sym b) p
+behind_two {A} {B} C P V Q h (Spent k) F e p v more b = subst (λ (d : Done B). LeavesSo C Q d) (sym b) tt
+behind_two {A} {B} C P V Q h Stuck F e p v more b = subst (λ (d : Done B). LeavesSo C Q d) (sym b) tt
 
 weaker : {A : Type 0} (V W : A → Type 0) (h : Held) (d : Done A) → ((x : A) → V x → W x) → AlikeBy V h d → AlikeBy W h d
 weaker V W h (Gives x k) f p = (f x p.0, p.1)
@@ -184,40 +184,40 @@ module _ (p : Program) (t : ℕ) (distinct : AreDistinct p.types.now) (host : Ho
       (by_caller h type slot.caller (params_types slot.callee type of) marked)))
 
   -- A task enters, and its arguments come.
-  entered_so : (h : Held) → RunsFunction h t → EntersFree h t → Q h → GivesSo (LiftsSo C t 0 h) (entered t h)
+  entered_so : (h : Held) → RunsFunction h t → EntersFree h t → Q h → LeavesSo C (LiftsSo C t 0 h) (entered t h)
   entered_so h runs free but =
-      so_after (LiftsSo C t 0 h) (enters t h) (λ done k. callee_of t k) (quiet_but C t h (enters t h) (enters_marks t h runs free) (enters_quiet t h) but)
-      (λ done k b. so_given (LiftsSo C t 0 h) (slice_get k.tasks t) (λ slot. Gives slot.callee k) (λ slot is. b))
+      leaves_after C (LiftsSo C t 0 h) (enters t h) (λ done k. callee_of t k) (quiet_but C t h (enters t h) (enters_marks t h runs free) (enters_quiet t h) but)
+      (λ done k b. leaves_given C (LiftsSo C t 0 h) (slice_get k.tasks t) (λ slot. Gives slot.callee k) (λ slot is. b))
 
-  values_so : (h : Held) (d : Done (List ℕ)) → ArgumentsLendWell p t h → RunsInOwn p t h → ValuesCome p t h d → Q h → GivesSo Q d
+  values_so : (h : Held) (d : Done (List ℕ)) → ArgumentsLendWell p t h → RunsInOwn p t h → ValuesCome p t h d → Q h → LeavesSo C Q d
   values_so h d may runs b but =
-      behind_two (LiftsSo C t 0 h) (Argued h) Q h (arguments_lifted p t h) (λ v k e. LowersArguments p t v k e) d (arguments_but C t 0 p t h may but) (arguments_come h (but.ends tt))
+      behind_two C (LiftsSo C t 0 h) (Argued h) Q h (arguments_lifted p t h) (λ v k e. LowersArguments p t v k e) d (arguments_but C t 0 p t h may but) (arguments_come h (but.ends tt))
       (λ v k q argued alike lowers.
       passed.arguments_but C p t v k d (runs_behind p t h k q.1 runs)
       (λ slot type found of.
       let b : Before h.tasks t slot = q.1.before t slot found in
       come_behind h k type v alike (argued b.slot type b.is (ap (λ (c : Callee). params_of p c) (sym b.prior.callee) ∙ of))) lowers q.0) b
 
-  words_so : (h : Held) → Q h → GivesSo Q (words_passed t h)
+  words_so : (h : Held) → Q h → LeavesSo C Q (words_passed t h)
   words_so h but =
-      so_given Q (slice_get h.tasks t) (λ slot. given (called_of slot.caller) (λ called. Gives called.words h))
-      (λ slot is. so_given Q (called_of slot.caller) (λ called. Gives called.words h) (λ called by. but))
+      leaves_given C Q (slice_get h.tasks t) (λ slot. given (called_of slot.caller) (λ called. Gives called.words h))
+      (λ slot is. leaves_given C Q (called_of slot.caller) (λ called. Gives called.words h) (λ called by. but))
 
-  come_so : (c : Callee) (h : Held) (d : Done (List ℕ)) → ArgumentsLendWell p t h → RunsInOwn p t h → ArgumentsCome p t c h d → Q h → GivesSo Q d
+  come_so : (c : Callee) (h : Held) (d : Done (List ℕ)) → ArgumentsLendWell p t h → RunsInOwn p t h → ArgumentsCome p t c h d → Q h → LeavesSo C Q d
   come_so callee.Init h d may runs b but = values_so h d may runs b but
   come_so (callee.Export number) h d may runs b but = values_so h d may runs b but
   come_so (callee.Lowered number) h d may runs b but = values_so h d may runs b but
-  come_so (callee.Destroys resource) h d may runs b but = as_so Q d (words_passed t h) b (words_so h but)
+  come_so (callee.Destroys resource) h d may runs b but = as_so C Q d (words_passed t h) b (words_so h but)
 
-  started_so : (c : Callee) (words : List ℕ) (h : Held) → Q h → GivesSo Q (started_by p c words h)
-  started_so c words h but = so_given Q (lift_of p.graph.now c) (λ lift. Gives (flow.Starts lift.core words) (at_rest rest.Runs h)) (λ lift is. but)
+  started_so : (c : Callee) (words : List ℕ) (h : Held) → Q h → LeavesSo C Q (started_by p c words h)
+  started_so c words h but = leaves_given C Q (lift_of p.graph.now c) (λ lift. Gives (flow.Starts lift.core words) (at_rest rest.Runs h)) (λ lift is. but)
 
-  pub enters_so : (h : Held) (d : Done Flow) → RunsFunction h t → EntersFree h t → ArgumentsLendWell p t h → RunsInOwn p t h → Enters p t h d → Q h → GivesSo Q d
+  pub enters_so : (h : Held) (d : Done Flow) → RunsFunction h t → EntersFree h t → ArgumentsLendWell p t h → RunsInOwn p t h → Enters p t h d → Q h → LeavesSo C Q d
   enters_so h d runs free may own b but =
-      behind_so (LiftsSo C t 0 h) Q (entered t h) (λ c k e. Then (ArgumentsCome p t c k) (λ words l f. f ≡ started_by p c words l) e) d (entered_so h runs free but)
+      behind_so C (LiftsSo C t 0 h) Q (entered t h) (λ c k e. Then (ArgumentsCome p t c k) (λ words l f. f ≡ started_by p c words l) e) d (entered_so h runs free but)
       (λ c k q (first, come, e).
-      behind_so Q Q first (λ words l f. f ≡ started_by p c words l) d (come_so c k first (lends_behind p t h k q.1 may) (runs_behind p t h k q.1 own) come q.0)
-      (λ words l but is. as_so Q d (started_by p c words l) is (started_so c words l but)) e) b
+      behind_so C Q Q first (λ words l f. f ≡ started_by p c words l) d (come_so c k first (lends_behind p t h k q.1 may) (runs_behind p t h k q.1 own) come q.0)
+      (λ words l but is. as_so C Q d (started_by p c words l) is (started_so c words l but)) e) b
 
   -- A task resolves with a result.
   come_moves : (h k : Held) (type : Numbered) (v : Value) → Alike h k → Come h type v → Come k type v
@@ -299,8 +299,8 @@ module _ (p : Program) (t : ℕ) (distinct : AreDistinct p.types.now) (host : Ho
       let b : Before h.tasks t slot = q.before t slot found in
       subst (λ (c : Callee). HoldsNoBorrow p (returned_of p c)) (sym b.prior.callee) (plain b.slot b.is)
 
-  on_so : (o : Option TypedValue) (h : Held) (d : Done (Unit {0})) → ResultPlain h → Ended h o → PassesOn p t o h d → Q h → GivesSo Q d
-  on_so None h d plain ends b but = as_so Q d (Gives tt h) b but
+  on_so : (o : Option TypedValue) (h : Held) (d : Done (Unit {0})) → ResultPlain h → Ended h o → PassesOn p t o h d → Q h → LeavesSo C Q d
+  on_so None h d plain ends b but = as_so C Q d (Gives tt h) b but
   on_so (Some v) h d plain ends b but =
       result_but C p t t v.value h d
       (λ slot is. (
@@ -316,9 +316,9 @@ module _ (p : Program) (t : ℕ) (distinct : AreDistinct p.types.now) (host : Ho
   alike_of_quiet h (Spent k) q = tt
   alike_of_quiet h Stuck q = tt
 
-  resolves_so : (value : Option TypedValue) (h : Held) (d : Done (Unit {0})) → ResultPlain h → Ended h value → Resolves p t value h d → Q h → GivesSo Q d
+  resolves_so : (value : Option TypedValue) (h : Held) (d : Done (Unit {0})) → ResultPlain h → Ended h value → Resolves p t value h d → Q h → LeavesSo C Q d
   resolves_so value h d plain ends b but =
-      behind_two (LiftsSo C t 0 h) Anything Q h (returned t value h) (λ done k e. PassesOn p t value k e) d
+      behind_two C (LiftsSo C t 0 h) Anything Q h (returned t value h) (λ done k e. PassesOn p t value k e) d
       (quiet_but C t h (returned t value h) (returned_marks t value h) (returned_quiet t value h) but) (alike_of_quiet h (returned t value h) (returned_quiet t value h))
       (λ done k q any alike on. on_so value k d (plain_behind h k q.1 plain) (ended_moves h k value q.1 alike ends) on q.0) b
 
@@ -329,10 +329,10 @@ module _ (p : Program) (t : ℕ) (distinct : AreDistinct p.types.now) (host : Ho
       both : {b : Bool} → b ≡ false → b ≡ true → ⊥
       both e f = cc
 
-  pub ends_so : (post : Option FuncRef) (words : List ℕ) (h : Held) (d : Done (Unit {0})) → ResultPlain h → Ends p t post words h d → Q h → GivesSo Q d
+  pub ends_so : (post : Option FuncRef) (words : List ℕ) (h : Held) (d : Done (Unit {0})) → ResultPlain h → Ends p t post words h d → Q h → LeavesSo C Q d
   ends_so post words h d plain (first, resolves, b) but =
-      behind_so Q Q first (λ done k e. PostReturnsTo p t post words k e) d
-      (behind_two (LiftsSo C t 0 h) (Ended h) Q h (ended_lifted p t words h) (λ value k e. Resolves p t value k e) first
+      behind_so C Q Q first (λ done k e. PostReturnsTo p t post words k e) d
+      (behind_two C (LiftsSo C t 0 h) (Ended h) Q h (ended_lifted p t words h) (λ value k e. Resolves p t value k e) first
       (ended_but C t 0 p t words h (λ slot is. plain_lends h (returned_of p slot.callee) (plain slot is)) but) (ended_comes words h (but.ends tt))
       (λ value k q so alike r. resolves_so value k first (plain_behind h k q.1 plain) (ended_moves h k value q.1 alike so) r q.0) resolves)
       (λ done k kept post_returns. post_returns_but C t p t post words k d post_returns kept) b
@@ -394,94 +394,94 @@ module _ (p : Program) (t : ℕ) (distinct : AreDistinct p.types.now) (host : Ho
       by None is e = absurd (cc)
       by (Some m) is e = by_type m (numbered_at p.types.now m) is refl e
 
-  returns_resolve : (number : ℕ) (h : Held) (d : Done (Unit {0})) → HoldsNoBorrow p (value_of p number) → ResultPlain h → Tested number h tt → ReturnResolves p t number h d → Q h → GivesSo Q d
+  returns_resolve : (number : ℕ) (h : Held) (d : Done (Unit {0})) → HoldsNoBorrow p (value_of p number) → ResultPlain h → Tested number h tt → ReturnResolves p t number h d → Q h → LeavesSo C Q d
   returns_resolve number h d value plain tested b but =
-      behind_two (LiftsSo C t 0 h) (Resulted h (value_of p number)) Q h (returned_lifted p t number h) (λ v k e. Resolves p t v k e) d
+      behind_two C (LiftsSo C t 0 h) (Resulted h (value_of p number)) Q h (returned_lifted p t number h) (λ v k e. Resolves p t v k e) d
       (returned_but C t 0 p t number h (plain_lends h (value_of p number) value) but) (returned_comes number h (but.ends tt))
       (λ v k q so alike r. resolves_so v k d (plain_behind h k q.1 plain) (ended_moves h k v q.1 alike (as_ended number h v tested so)) r q.0) b
 
   -- It is tested first, and the test changes nothing.
-  same_behind : (h : Held) (is_same : Bool) (options lifted : Options) → GivesSo (λ (k : Held). k ≡ h) (checked is_same options lifted h)
-  same_behind h is_same options lifted =
-      so_if (λ (k : Held). k ≡ h) (not is_same) (Traps trap.WrongResult h) (if not (same_memory (memory_of options h) (memory_of lifted h)) then Traps trap.WrongOptions h else Gives tt h) tt
-      (so_if (λ (k : Held). k ≡ h) (not (same_memory (memory_of options h) (memory_of lifted h))) (Traps trap.WrongOptions h) (Gives tt h) tt refl)
+  same_behind : (h : Held) (is_same : Bool) (options lifted : Options) → Q h → LeavesSo C (λ (k : Held). k ≡ h) (checked is_same options lifted h)
+  same_behind h is_same options lifted but =
+      leaves_if C (λ (k : Held). k ≡ h) (not is_same) (Traps trap.WrongResult h) (if not (same_memory (memory_of options h) (memory_of lifted h)) then Traps trap.WrongOptions h else Gives tt h) (right_at C t 0 h but)
+      (leaves_if C (λ (k : Held). k ≡ h) (not (same_memory (memory_of options h) (memory_of lifted h))) (Traps trap.WrongOptions h) (Gives tt h) (right_at C t 0 h but) refl)
 
-  one_looked : {A B : Type 0} (P : Held → Type 0) (h : Held) (o : Option TaskSlot) (g : TaskSlot → A) (f : A → Held → Done B) → ((slot : TaskSlot) → o ≡ Some slot → GivesSo P (f (g slot) h))
-      → GivesSo P (let d : Done B = after (given o (λ slot. Gives (g slot) h)) f in d)
+  one_looked : {A B : Type 0} (P : Held → Type 0) (h : Held) (o : Option TaskSlot) (g : TaskSlot → A) (f : A → Held → Done B) → ((slot : TaskSlot) → o ≡ Some slot → LeavesSo C P (f (g slot) h))
+      → LeavesSo C P (let d : Done B = after (given o (λ slot. Gives (g slot) h)) f in d)
   one_looked P h None g f q = tt
   one_looked P h (Some slot) g f q = q slot refl
 
-  tested_same : (number : ℕ) (h : Held) → GivesSo (λ (k : Held). k ≡ h) (return_tested p t number h)
-  tested_same number h =
+  tested_same : (number : ℕ) (h : Held) → Q h → LeavesSo C (λ (k : Held). k ≡ h) (return_tested p t number h)
+  tested_same number h but =
       one_looked (λ (k : Held). k ≡ h) h (slice_get h.tasks t) (λ slot. slot.callee)
       (λ c k. return_checked p.graph.now t (type_of (type_by p (value_of p number))) (type_of (type_by p (returned_of p c))) (options_at p.graph.now number) k)
       (λ slot is.
       one_looked (λ (k : Held). k ≡ h) h (slice_get h.tasks t) (λ s. s.callee)
       (λ x k. given (lift_of p.graph.now x) (λ lift. checked (same_held (type_of (type_by p (value_of p number))) (type_of (type_by p (returned_of p slot.callee)))) (options_at p.graph.now number) lift.options k))
       (λ other there.
-      so_given (λ (k : Held). k ≡ h) (lift_of p.graph.now other.callee)
+      leaves_given C (λ (k : Held). k ≡ h) (lift_of p.graph.now other.callee)
       (λ lift. checked (same_held (type_of (type_by p (value_of p number))) (type_of (type_by p (returned_of p slot.callee)))) (options_at p.graph.now number) lift.options h)
-      (λ lift made. same_behind h (same_held (type_of (type_by p (value_of p number))) (type_of (type_by p (returned_of p slot.callee)))) (options_at p.graph.now number) lift.options)))
+      (λ lift made. same_behind h (same_held (type_of (type_by p (value_of p number))) (type_of (type_by p (returned_of p slot.callee)))) (options_at p.graph.now number) lift.options but)))
 
-  pub returns_so : (number : ℕ) (h : Held) (d : Done Flow) → HoldsNoBorrow p (value_of p number) → ResultPlain h → Returns p t number h d → Q h → GivesSo Q d
+  pub returns_so : (number : ℕ) (h : Held) (d : Done Flow) → HoldsNoBorrow p (value_of p number) → ResultPlain h → Returns p t number h d → Q h → LeavesSo C Q d
   returns_so number h d value plain (first, tested, b) but =
-      behind_so Q Q first (λ done k e. e ≡ got t [] k) d
-      (behind_two (λ (k : Held). k ≡ h) (Tested number h) Q h (return_tested p t number h) (λ done k e. ReturnResolves p t number k e) first (tested_same number h) (tested_comes number h)
+      behind_so C Q Q first (λ done k e. e ≡ got t [] k) d
+      (behind_two C (λ (k : Held). k ≡ h) (Tested number h) Q h (return_tested p t number h) (λ done k e. ReturnResolves p t number k e) first (tested_same number h but) (tested_comes number h)
       (λ done k same so alike r.
       returns_resolve number h first value plain so (subst (λ (x : Held). ReturnResolves p t number x first) same r) but) tested)
-      (λ done k kept is. as_so Q d (got t [] k) is kept) b
+      (λ done k kept is. as_so C Q d (got t [] k) is kept) b
 
   -- Whatever is passed but elements. Behind one that is lifted with `async` nothing is.
   abbrev Marked : Held → Type 0
   Marked k = HasMarkedEnds k
 
-  marked : {A : Type 0} (d : Done A) → GivesSo Q d → GivesSo Marked d
+  marked : {A : Type 0} (d : Done A) → LeavesSo C Q d → HoldsSo Marked d
   marked (Gives x k) q = q.ends tt
-  marked (Traps why k) q = tt
+  marked (Traps why k) q = q.1 tt
   marked (Spent k) q = tt
   marked Stuck q = tt
 
-  sync_so : (words : List ℕ) (h : Held) (d : Done Flow) → ResultPlain h → SyncEnds p t words h d → Q h → GivesSo Q d
+  sync_so : (words : List ℕ) (h : Held) (d : Done Flow) → ResultPlain h → SyncEnds p t words h d → Q h → LeavesSo C Q d
   sync_so words h d plain b but = by_slot (slice_get h.tasks t) b
     where
-      by_lift : (o : Option Lift) → Behind (let e : Done Lift = given o (λ lift. Gives lift h) in e) (λ lift k x. Then (Ends p t lift.options.post_return words k) (λ done l f. f ≡ Gives flow.Rests l) x) d → GivesSo Q d
-      by_lift None b = as_so Q d Stuck b tt
+      by_lift : (o : Option Lift) → Behind (let e : Done Lift = given o (λ lift. Gives lift h) in e) (λ lift k x. Then (Ends p t lift.options.post_return words k) (λ done l f. f ≡ Gives flow.Rests l) x) d → LeavesSo C Q d
+      by_lift None b = as_so C Q d Stuck b tt
       by_lift (Some lift) (first, ends, b) =
-          behind_so Q Q first (λ done l f. f ≡ Gives flow.Rests l) d (ends_so lift.options.post_return words h first plain ends but)
-          (λ done l kept is. as_so Q d (Gives flow.Rests l) is kept) b
+          behind_so C Q Q first (λ done l f. f ≡ Gives flow.Rests l) d (ends_so lift.options.post_return words h first plain ends but)
+          (λ done l kept is. as_so C Q d (Gives flow.Rests l) is kept) b
 
       by_slot : (o : Option TaskSlot) → Behind (let e : Done Lift = after (given o (λ slot. Gives slot.callee h)) (λ c k. given (lift_of p.graph.now c) (λ lift. Gives lift k)) in e) (λ lift k x. Then (Ends p t lift.options.post_return words k) (λ done l f. f ≡ Gives flow.Rests l) x) d
-          → GivesSo Q d
-      by_slot None b = as_so Q d Stuck b tt
+          → LeavesSo C Q d
+      by_slot None b = as_so C Q d Stuck b tt
       by_slot (Some slot) b = by_lift (lift_of p.graph.now slot.callee) b
 
-  from_still : {A : Type 0} (K : ℕ → EndKind) (h : Held) (d : Done A) → StillBy (Some K) h d → EndsKept K h → GivesSo Marked d
+  from_still : {A : Type 0} (K : ℕ → EndKind) (h : Held) (d : Done A) → StillBy (Some K) h d → EndsKept K h → HoldsSo Marked d
   from_still K h (Gives x k) still kept = (still.ends K refl kept).marked
-  from_still K h (Traps why k) still kept = tt
+  from_still K h (Traps why k) still kept = (still K refl kept).marked
   from_still K h (Spent k) still kept = tt
   from_still K h Stuck still kept = tt
 
-  looped_so : (K : ℕ → EndKind) (words : List ℕ) (h : Held) (o : Option ℕ) → EndsKept K h → GivesSo Marked (let d : Done Flow = given o (λ word. loops t word h) in d)
+  looped_so : (K : ℕ → EndKind) (words : List ℕ) (h : Held) (o : Option ℕ) → EndsKept K h → HoldsSo Marked (let d : Done Flow = given o (λ word. loops t word h) in d)
   looped_so K words h None kept = tt
   looped_so K words h (Some word) kept = from_still K h (loops t word h) (loops_still (Some K) t word h) kept
 
-  kind_so : (K : ℕ → EndKind) (words : List ℕ) (kind : Kind) (h : Held) (d : Done Flow) → EndsBy p t h kind → EndsKept K h → KindEnds p t words kind h d → Q h → GivesSo Marked d
+  kind_so : (K : ℕ → EndKind) (words : List ℕ) (kind : Kind) (h : Held) (d : Done Flow) → EndsBy p t h kind → EndsKept K h → KindEnds p t words kind h d → Q h → HoldsSo Marked d
   kind_so K words Sync h d well kept b but = marked d (sync_so words h d well b but)
-  kind_so K words Callback h d well kept b but = as_so Marked d (async_ended t Callback words h) b (looped_so K words h (word_in words 0) kept)
-  kind_so K words Stackful h d well kept b but = as_so Marked d (async_ended t Stackful words h) b (from_still K h (ending t h) (ending_still (Some K) t h) kept)
+  kind_so K words Callback h d well kept b but = as_holds Marked d (async_ended t Callback words h) b (looped_so K words h (word_in words 0) kept)
+  kind_so K words Stackful h d well kept b but = as_holds Marked d (async_ended t Stackful words h) b (from_still K h (ending t h) (ending_still (Some K) t h) kept)
 
   pub passed_marked : (K : ℕ → EndKind) (x : Passing) (h : Held) (d : Done Flow) → ((copying : Copying) → x ≡ passing.Elements copying → ⊥) → PassesSo p t h x → EndsKept K h → PassesFor p t x h d → Q h
-      → GivesSo Marked d
-  passed_marked K passing.Nothing h d none well kept b but = as_so Marked d (Gives flow.Rests h) b kept.marked
+      → HoldsSo Marked d
+  passed_marked K passing.Nothing h d none well kept b but = as_holds Marked d (Gives flow.Rests h) b kept.marked
   passed_marked K passing.Arguments h d none well kept b but = marked d (enters_so h d well.runs well.free well.lends well.own b but)
   passed_marked K passing.Returned h d none well kept b but = by_number (call_at h.rest) refl b
     where
-      by_number : (o : Option ℕ) → call_at h.rest ≡ o → ReturnsBy p t o h d → GivesSo Marked d
-      by_number None is b = as_so Marked d Stuck b tt
+      by_number : (o : Option ℕ) → call_at h.rest ≡ o → ReturnsBy p t o h d → HoldsSo Marked d
+      by_number None is b = as_holds Marked d Stuck b tt
       by_number (Some number) is b = marked d (returns_so number h d (well.0 number is) well.1 b but)
   passed_marked K (passing.Ended words) h d none well kept b but = by_slot (slice_get h.tasks t) refl b
     where
-      by_slot : (o : Option TaskSlot) → slice_get h.tasks t ≡ o → Behind (let e : Done Kind = given o (λ slot. Gives slot.task.kind h) in e) (λ kind k e. KindEnds p t words kind k e) d → GivesSo Marked d
-      by_slot None is b = as_so Marked d Stuck b tt
+      by_slot : (o : Option TaskSlot) → slice_get h.tasks t ≡ o → Behind (let e : Done Kind = given o (λ slot. Gives slot.task.kind h) in e) (λ kind k e. KindEnds p t words kind k e) d → HoldsSo Marked d
+      by_slot None is b = as_holds Marked d Stuck b tt
       by_slot (Some slot) is b = kind_so K words slot.task.kind h d (well slot is) kept b but
   passed_marked K (passing.Elements copying) h d none well kept b but = absurd (none copying refl)

@@ -43,7 +43,7 @@ use Rattle.standing.specs.Channels.{of_kind}
 use Rattle.standing.specs.EndMarks.{streams_with, futures_with}
 use Rattle.standing.proofs.EndSides.{meeting_leaves_other, channels_stay_marked}
 use Rattle.run_laws.specs.keeping.Still.{EndsAre, EndsKept}
-use Rattle.run_laws.proofs.keeping.But.{GivesSo, so_given, so_if}
+use Rattle.run_laws.proofs.keeping.But.{HoldsSo, holds_given, holds_if}
 use Rattle.run_laws.proofs.keeping.still.Still.{Kinds, StillBy}
 use Rattle.run_laws.proofs.keeping.still.Calls.{blocked_in_still}
 use Rattle.run_laws.proofs.keeping.still.Reads as bare
@@ -121,9 +121,9 @@ offered_kind side who canon place size (ends.Stream p) = refl
 offered_kind side who canon place size (ends.Future p) = refl
 
 -- Parts behind parts.
-so_assoc : {A B C : Type 0} (Q : Held → Type 0) (d : Done A) (f : A → Held → Done B) (c : B → Held → Done C) → GivesSo Q (after d (λ x k. after (f x k) c)) → GivesSo Q (after (after d f) c)
+so_assoc : {A B C : Type 0} (Q : Held → Type 0) (d : Done A) (f : A → Held → Done B) (c : B → Held → Done C) → HoldsSo Q (after d (λ x k. after (f x k) c)) → HoldsSo Q (after (after d f) c)
 so_assoc Q (Gives x k) f c p = p
-so_assoc Q (Traps why k) f c p = tt
+so_assoc Q (Traps why k) f c p = p
 so_assoc Q (Spent k) f c p = tt
 so_assoc Q Stuck f c p = tt
 
@@ -131,9 +131,9 @@ module _ (K : ℕ → EndKind) (g : Views) where
   abbrev Kept : Held → Type 0
   Kept k = EndsKept K k
 
-  left_standing_so : (c : CopyCall) (h : Held) → Kept h → GivesSo Kept (left_standing g c h)
+  left_standing_so : (c : CopyCall) (h : Held) → Kept h → HoldsSo Kept (left_standing g c h)
   left_standing_so c h kept =
-      so_if Kept (g.is_async c.canon) (got c.task (blocked_word ∷ []) h) (blocked_in c.task c.canon (g.flag c.canon) (blocked_at.Copy c.index) (reason.Copy c.index) h) kept
+      holds_if Kept (g.is_async c.canon) (got c.task (blocked_word ∷ []) h) (blocked_in c.task c.canon (g.flag c.canon) (blocked_at.Copy c.index) (reason.Copy c.index) h) kept
       (of_still K h (blocked_in c.task c.canon (g.flag c.canon) (blocked_at.Copy c.index) (reason.Copy c.index) h)
       (blocked_in_still (Some K) c.task c.canon (g.flag c.canon) (blocked_at.Copy c.index) (reason.Copy c.index) h) kept)
 
@@ -150,17 +150,17 @@ module _ (K : ℕ → EndKind) (g : Views) where
         subst (λ (s : Side). is_idle (end_in (other_side e.side) (channel.offered s (by.Task c.task) c.canon c.place c.length d.ends)) ≡ is_idle (end_in (other_side e.side) d.ends)) known.side_is
         (meeting_leaves_other e.side (by.Task c.task) c.canon c.place c.length d.ends)
 
-    idle_so : {A : Type 0} (more : Held → Done A) → ((l : Held) → Kept l → GivesSo Kept (more l)) → GivesSo Kept (after (idle_said c e.number k) (λ done l. more l))
+    idle_so : {A : Type 0} (more : Held → Done A) → ((l : Held) → Kept l → HoldsSo Kept (more l)) → HoldsSo Kept (after (idle_said c e.number k) (λ done l. more l))
     unfolding idle_said
     idle_so more goes =
         so_assoc Kept (idle_seen c.kind c.side e.number k) (λ is_idle l. end_idled c.at c.index is_idle l) (λ done l. more l)
         (said_so K h c.at c.index c.kind c.side x e place d z (λ done l. more l) known kept (offered_kind c.side (by.Task c.task) c.canon c.place c.length d.ends) refl other goes)
 
-    at_once_so : (payload : ℕ) → GivesSo Kept (answered_at_once c e.number payload k)
+    at_once_so : (payload : ℕ) → HoldsSo Kept (answered_at_once c e.number payload k)
     unfolding answered_at_once
     at_once_so payload = idle_so (λ l. got c.task (payload ∷ []) l) (λ l now. now)
 
-    stands_so : GivesSo Kept (offer_stands g c e.number k)
+    stands_so : HoldsSo Kept (offer_stands g c e.number k)
     unfolding offer_stands
     stands_so = idle_so (λ l. left_standing g c l) (λ l now. left_standing_so c l now)
 
@@ -185,7 +185,7 @@ module _ (K : ℕ → EndKind) (g : Views) where
           are_futures = are_futures_with K c.kind place d z h.streams h.futures there refl kept.are_futures;
         })
 
-    met_so : (m : Meet) → meet_in c.side (by.Task c.task) c.canon c.place c.length d.ends ≡ m → GivesSo Kept (met g c e.number m k)
+    met_so : (m : Meet) → meet_in c.side (by.Task c.task) c.canon c.place c.length d.ends ≡ m → HoldsSo Kept (met g c e.number m k)
     met_so meet.Stands is = stands_so
     met_so (meet.Copies count) is = copies_so count is
     met_so meet.Dropped is = at_once_so 1
@@ -193,7 +193,7 @@ module _ (K : ℕ → EndKind) (g : Views) where
     met_so meet.ZeroDone is = at_once_so 0
     met_so meet.NothingNow is = at_once_so 0
 
-    meets_so : GivesSo Kept (meets g c e.number h)
+    meets_so : HoldsSo Kept (meets g c e.number h)
     unfolding meets
     meets_so =
         so_looked K (place_of e.number) place (λ p. offered_at c.kind p c.side (by.Task c.task) c.canon c.place c.length h) (λ m l. met g c e.number m l) known.number
@@ -203,52 +203,52 @@ module _ (K : ℕ → EndKind) (g : Views) where
         (λ m l. met g c e.number m l) known.found (by_offer (may_offer c.side c.length d.ends)))
       where
         by_offer : (b : Bool)
-            → GivesSo Kept (after (answered (if b then Some (meet_in c.side (by.Task c.task) c.canon c.place c.length d.ends) else None) c.kind place
+            → HoldsSo Kept (after (answered (if b then Some (meet_in c.side (by.Task c.task) c.canon c.place c.length d.ends) else None) c.kind place
             (if b then with_ends (channel.offered c.side (by.Task c.task) c.canon c.place c.length d.ends) d else d) h) (λ m l. met g c e.number m l))
         by_offer true = met_so (meet_in c.side (by.Task c.task) c.canon c.place c.length d.ends) refl
         by_offer false = tt
 
   -- Elements are tested first.
-  trapped_so : {A : Type 0} (b : Bool) (why : TrapName) (l : Held) (d : Done (Unit {0})) (f : Unit {0} → Held → Done A) → GivesSo Kept (after d f) → GivesSo Kept (after (if b then Traps why l else d) f)
-  trapped_so true why l d f p = tt
-  trapped_so false why l d f p = p
+  trapped_so : {A : Type 0} (b : Bool) (why : TrapName) (l : Held) (d : Done (Unit {0})) (f : Unit {0} → Held → Done A) → Kept l → HoldsSo Kept (after d f) → HoldsSo Kept (after (if b then Traps why l else d) f)
+  trapped_so true why l d f q p = q
+  trapped_so false why l d f q p = p
 
-  given_so : {A : Type 0} (b : Bool) (h : Held) (d : Done (Unit {0})) (f : Unit {0} → Held → Done A) → GivesSo Kept (f tt h) → GivesSo Kept (after d f) → GivesSo Kept (after (if b then Gives tt h else d) f)
+  given_so : {A : Type 0} (b : Bool) (h : Held) (d : Done (Unit {0})) (f : Unit {0} → Held → Done A) → HoldsSo Kept (f tt h) → HoldsSo Kept (after d f) → HoldsSo Kept (after (if b then Gives tt h else d) f)
   given_so true h d f p q = p
   given_so false h d f p q = q
 
-  well_so : {A : Type 0} (o : Option ValType) (memory : Option ℕ) (place count : ℕ) (h : Held) (f : Unit {0} → Held → Done A) → GivesSo Kept (f tt h) → GivesSo Kept (after (placed_well o memory place count h) f)
+  well_so : {A : Type 0} (o : Option ValType) (memory : Option ℕ) (place count : ℕ) (h : Held) (f : Unit {0} → Held → Done A) → Kept h → HoldsSo Kept (f tt h) → HoldsSo Kept (after (placed_well o memory place count h) f)
   unfolding placed_well
-  well_so None memory place count h f p = p
-  well_so (Some element) memory place count h f p =
+  well_so None memory place count h f q p = p
+  well_so (Some element) memory place count h f q p =
       given_so (nat_eq count 0) h
       (if not (nat_eq (place % (laid element).align) 0) then Traps trap.Misaligned h else
       if not (nat_le (place + count * (laid element).size) (length (bytes_at memory h.store))) then Traps trap.Bounds h else Gives tt h) f p
       (trapped_so (not (nat_eq (place % (laid element).align) 0)) trap.Misaligned h
-      (if not (nat_le (place + count * (laid element).size) (length (bytes_at memory h.store))) then Traps trap.Bounds h else Gives tt h) f
-      (trapped_so (not (nat_le (place + count * (laid element).size) (length (bytes_at memory h.store)))) trap.Bounds h (Gives tt h) f p))
+      (if not (nat_le (place + count * (laid element).size) (length (bytes_at memory h.store))) then Traps trap.Bounds h else Gives tt h) f q
+      (trapped_so (not (nat_le (place + count * (laid element).size) (length (bytes_at memory h.store)))) trap.Bounds h (Gives tt h) f q p))
 
   tested_so : (element : Option ValType) (c : CopyCall) (h : Held) (x : InstanceView) (e : EndEntry) (place : ℕ) (d : Channel) → Known K h c.at c.index c.kind c.side x e place d → Kept h
-      → GivesSo Kept (copy_tested g element c e.number d h)
+      → HoldsSo Kept (copy_tested g element c e.number d h)
   unfolding placed_and_met
   tested_so element c h x e place d known kept =
       let b : Bool = is_within g c.at c.side element d.ends in
-      so_if Kept (is_copying (end_in c.side d.ends)) (Traps trap.Busy h)
-      (if (end_in c.side d.ends).done then Traps trap.DoneEnd h else if nat_lt most_elements c.length then Traps trap.TooLong h else placed_and_met g element c e.number b h) tt
-      (so_if Kept (end_in c.side d.ends).done (Traps trap.DoneEnd h) (if nat_lt most_elements c.length then Traps trap.TooLong h else placed_and_met g element c e.number b h) tt
-      (so_if Kept (nat_lt most_elements c.length) (Traps trap.TooLong h) (placed_and_met g element c e.number b h) tt
-      (well_so element (memory_of (g.options c.canon) h) c.place c.length h (λ done k. if b then Traps trap.SameInstance k else meets g c e.number k)
-      (so_if Kept b (Traps trap.SameInstance h) (meets g c e.number h) tt (meets_so c h x e place d known kept)))))
+      holds_if Kept (is_copying (end_in c.side d.ends)) (Traps trap.Busy h)
+      (if (end_in c.side d.ends).done then Traps trap.DoneEnd h else if nat_lt most_elements c.length then Traps trap.TooLong h else placed_and_met g element c e.number b h) kept
+      (holds_if Kept (end_in c.side d.ends).done (Traps trap.DoneEnd h) (if nat_lt most_elements c.length then Traps trap.TooLong h else placed_and_met g element c e.number b h) kept
+      (holds_if Kept (nat_lt most_elements c.length) (Traps trap.TooLong h) (placed_and_met g element c e.number b h) kept
+      (well_so element (memory_of (g.options c.canon) h) c.place c.length h (λ done k. if b then Traps trap.SameInstance k else meets g c e.number k) kept
+      (holds_if Kept b (Traps trap.SameInstance h) (meets g c e.number h) kept (meets_so c h x e place d known kept)))))
 
   asked_so : (element : Option ValType) (t at canon : ℕ) (kind : EndKind) (side : Side) (type : ℕ) (words : List ℕ) (h : Held) → K type ≡ kind → Kept h
-      → GivesSo Kept (copy_asked g element t at canon kind side type words h)
+      → HoldsSo Kept (copy_asked g element t at canon kind side type words h)
   unfolding copy_asked read_or_write
   asked_so element t at canon kind side type words h of kept =
-      so_given Kept (word_in words 0) (λ index. given (word_in words 1) (λ place. given (length_in kind words) (λ count. read_or_write g element (call_of t at canon kind side type index place count) h)))
+      holds_given Kept (word_in words 0) (λ index. given (word_in words 1) (λ place. given (length_in kind words) (λ count. read_or_write g element (call_of t at canon kind side type index place count) h)))
       (λ index is.
-      so_given Kept (word_in words 1) (λ place. given (length_in kind words) (λ count. read_or_write g element (call_of t at canon kind side type index place count) h))
+      holds_given Kept (word_in words 1) (λ place. given (length_in kind words) (λ count. read_or_write g element (call_of t at canon kind side type index place count) h))
       (λ place second.
-      so_given Kept (length_in kind words) (λ count. read_or_write g element (call_of t at canon kind side type index place count) h)
+      holds_given Kept (length_in kind words) (λ count. read_or_write g element (call_of t at canon kind side type index place count) h)
       (λ count third.
       let c : CopyCall = call_of t at canon kind side type index place count in
       found_so K h at kind side type index of kept (λ e channel k. copy_tested g element c e.number channel k) (λ x e p d known. tested_so element c h x e p d known kept))))

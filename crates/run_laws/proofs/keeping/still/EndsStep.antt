@@ -11,9 +11,11 @@ use Rattle.laid_types.specs.Parts.{parts_of, part_at}
 use Rattle.laid_types.specs.SameTypes.{AreDistinct}
 use Rattle.builtin_kinds.specs.declared.EndKind.{EndKind}
 use Rattle.comp_graph.specs.declared.graph.FuncRef.{FuncRef}
+use Rattle.comp_graph.specs.Passed.{MayBeAt}
+use Rattle.copy_replies.specs.Moves.{element_at}
 use Rattle.programs.specs.declared.program.Program.{Program}
 use Rattle.programs.specs.declared.program.CallNumbers.{CallNumbers}
-use Rattle.programs.specs.Program.{values_in, values_at}
+use Rattle.programs.specs.Program.{value_of, values_in, values_at}
 use Rattle.script_reader.specs.declared.script.Item.{Item}
 use Rattle.script_reader.specs.declared.script.Item.TheVariants as item
 use Rattle.wasm_store.proofs.Lists.{all_at}
@@ -36,18 +38,20 @@ use Rattle.value_parts.specs.Coming.{Behind}
 use Rattle.value_moves.specs.Passing.{PassesFor, Passes, call_at}
 use Rattle.machine_runs.specs.declared.stepping.Step.{Step}
 use Rattle.machine_runs.specs.declared.stepping.Step.TheVariants as step
-use Rattle.machine_runs.specs.Following.{answered_now, started_now, stacked, followed}
+use Rattle.machine_runs.specs.Following.{answered_now, started_now, followed}
 use Rattle.machine_runs.specs.Stepping.{follow_steps, PassSteps}
 use Rattle.abi_machine.specs.Control.{EndRef}
 use Rattle.abi_machine.specs.sound.EndsPassed.{ends_step, ends_in, ends_of, ItemPassesNoEnd, ScriptPassesNoEnd}
 use Rattle.standing.specs.Channels.{HasMarkedEnds}
 use Rattle.standing.specs.KeptMarks.{HasMarks}
 use Rattle.run_laws.specs.keeping.Steps.{PassesWell}
-use Rattle.run_laws.specs.keeping.Still.{EndsKept, HostPassesNone, IsOfTask, GivesMarked, PassingKeepsEnds, ScriptsPassNone}
-use Rattle.run_laws.proofs.PassedFlows.{GivesBy, IsRest, entered_plain, returned_plain, ended_rests}
+use Rattle.run_laws.specs.Transfers.{HasEndOf}
+use Rattle.run_laws.specs.keeping.Still.{EndsKept, HostPassesNone, IsOfTask, GivesMarked, PassingKeepsEnds, ElementsKeepEnds, ScriptsPassNone}
+use Rattle.run_laws.proofs.PassedFlows.{GivesBy, IsRest, entered_plain, returned_plain, ended_rests, transferred_plain}
 use Rattle.run_laws.proofs.plain.Only.{IsPlain}
-use Rattle.run_laws.proofs.keeping.But.{GivesSo, but_of, so_after, so_given}
+use Rattle.run_laws.proofs.keeping.But.{HoldsSo, but_of, holds_after, holds_given}
 use Rattle.run_laws.proofs.keeping.Planned.{Ends, ends_typed, end_steps, in_elements, in_list, in_fields, in_payload}
+use Rattle.run_laws.proofs.keeping.still.EndsOver.{transferred_marked}
 use Rattle.run_laws.proofs.keeping.still.EndsPassed.{HostEnds, passed_marked}
 
 -- A value that holds no end holds none by its type.
@@ -152,22 +156,22 @@ host_ends p none call values t is =
 abbrev Marked : Held → Type 0
 Marked k = HasMarkedEnds k
 
-now_marked : (words : List ℕ) (piles : List PileView) (h : Held) → Marked h → GivesSo Marked (answered_now words piles h)
+now_marked : (words : List ℕ) (piles : List PileView) (h : Held) → Marked h → HoldsSo Marked (answered_now words piles h)
 now_marked words piles h m =
-    so_after Marked {B = Passing × List PileView} (acting h) (λ t k. given (at_pile (gone_on k.store words) t piles) (λ r. Gives (passing.Nothing, r.1) k))
-    (so_given Marked (slice_get h.chain (length h.chain - 1)) (λ t. Gives t h) (λ t is. m))
-    (λ t k n. so_given Marked {B = Passing × List PileView} (at_pile (gone_on k.store words) t piles) (λ r. Gives (passing.Nothing, r.1) k) (λ r is. n))
+    holds_after Marked {B = Passing × List PileView} (acting h) (λ t k. given (at_pile (gone_on k.store words) t piles) (λ r. Gives (passing.Nothing, r.1) k))
+    (holds_given Marked (slice_get h.chain (length h.chain - 1)) (λ t. Gives t h) (λ t is. m))
+    (λ t k n. holds_given Marked {B = Passing × List PileView} (at_pile (gone_on k.store words) t piles) (λ r. Gives (passing.Nothing, r.1) k) (λ r is. n))
 
-start_marked : (func : FuncRef) (words : List ℕ) (piles : List PileView) (h : Held) → Marked h → GivesSo Marked (started_now func words piles h)
+start_marked : (func : FuncRef) (words : List ℕ) (piles : List PileView) (h : Held) → Marked h → HoldsSo Marked (started_now func words piles h)
 start_marked func words piles h m =
-    so_after Marked {B = Passing × List PileView} (acting h) (λ t k. after (started_on t func words piles k) (λ r l. Gives (passing.Nothing, r.1) l))
-    (so_given Marked (slice_get h.chain (length h.chain - 1)) (λ t. Gives t h) (λ t is. m))
+    holds_after Marked {B = Passing × List PileView} (acting h) (λ t k. after (started_on t func words piles k) (λ r l. Gives (passing.Nothing, r.1) l))
+    (holds_given Marked (slice_get h.chain (length h.chain - 1)) (λ t. Gives t h) (λ t is. m))
     (λ t k n.
-    so_after Marked {B = Passing × List PileView} (started_on t func words piles k) (λ r l. Gives (passing.Nothing, r.1) l)
-    (so_given Marked (call_of k.store func words) (λ s. given (at_pile (piled.stacked s) t piles) (λ r. Gives r (at_rest rest.Runs k)))
-    (λ s is. so_given Marked (at_pile (piled.stacked s) t piles) (λ r. Gives r (at_rest rest.Runs k)) (λ r there. n))) (λ r l o. o))
+    holds_after Marked {B = Passing × List PileView} (started_on t func words piles k) (λ r l. Gives (passing.Nothing, r.1) l)
+    (holds_given Marked (call_of k.store func words) (λ s. given (at_pile (piled.stacked s) t piles) (λ r. Gives r (at_rest rest.Runs k)))
+    (λ s is. holds_given Marked (at_pile (piled.stacked s) t piles) (λ r. Gives r (at_rest rest.Runs k)) (λ r there. n))) (λ r l o. o))
 
-follow_marked : (p : Program) (f : Flow) (piles : List PileView) (k : Held) → IsPlain f → Marked k → GivesSo Marked (followed (seen p.graph.now) f piles k)
+follow_marked : (p : Program) (f : Flow) (piles : List PileView) (k : Held) → IsPlain f → Marked k → HoldsSo Marked (followed (seen p.graph.now) f piles k)
 unfolding followed
 follow_marked p (flow.Now words) piles k plain m = now_marked words piles k m
 follow_marked p flow.Rests piles k plain m = m
@@ -180,9 +184,9 @@ follow_marked p (flow.Polls r set) piles k plain m = absurd plain
 follow_marked p (flow.HearsNone r) piles k plain m = absurd plain
 follow_marked p (flow.HearsCancel r) piles k plain m = absurd plain
 
-steps_marked : (p : Program) (f : Flow) (piles : List PileView) (k : Held) → IsPlain f → Marked k → GivesSo Marked (follow_steps p f piles k)
+steps_marked : (p : Program) (f : Flow) (piles : List PileView) (k : Held) → IsPlain f → Marked k → HoldsSo Marked (follow_steps p f piles k)
 steps_marked p f piles k plain m =
-    so_after Marked {B = Step × List PileView} (followed (seen p.graph.now) f piles k) (λ r l. Gives (step.GoesOn r.0, r.1) l) (follow_marked p f piles k plain m) (λ r l o. o)
+    holds_after Marked {B = Step × List PileView} (followed (seen p.graph.now) f piles k) (λ r l. Gives (step.GoesOn r.0, r.1) l) (follow_marked p f piles k plain m) (λ r l o. o)
 
 rest_plain : (x : Flow) → IsRest x → IsPlain x
 rest_plain x is = subst IsPlain (sym is) tt
@@ -193,12 +197,12 @@ rests_plain (Traps why k) is = tt
 rests_plain (Spent k) is = tt
 rests_plain Stuck is = tt
 
-behind_marked : (p : Program) (piles : List PileView) (first : Done Flow) (d : Done (Step × List PileView)) → GivesBy IsPlain first → GivesSo Marked first
-    → Behind first (λ f k e. e ≡ follow_steps p f piles k) d → GivesSo Marked d
-behind_marked p piles (Gives f k) d plain m b = subst (λ (e : Done (Step × List PileView)). GivesSo Marked e) (sym b) (steps_marked p f piles k plain m)
-behind_marked p piles (Traps why k) d plain m b = subst (λ (e : Done (Step × List PileView)). GivesSo Marked e) (sym b) tt
-behind_marked p piles (Spent k) d plain m b = subst (λ (e : Done (Step × List PileView)). GivesSo Marked e) (sym b) tt
-behind_marked p piles Stuck d plain m b = subst (λ (e : Done (Step × List PileView)). GivesSo Marked e) (sym b) tt
+behind_marked : (p : Program) (piles : List PileView) (first : Done Flow) (d : Done (Step × List PileView)) → GivesBy IsPlain first → HoldsSo Marked first
+    → Behind first (λ f k e. e ≡ follow_steps p f piles k) d → HoldsSo Marked d
+behind_marked p piles (Gives f k) d plain m b = subst (λ (e : Done (Step × List PileView)). HoldsSo Marked e) (sym b) (steps_marked p f piles k plain m)
+behind_marked p piles (Traps why k) d plain m b = subst (λ (e : Done (Step × List PileView)). HoldsSo Marked e) (sym b) m
+behind_marked p piles (Spent k) d plain m b = subst (λ (e : Done (Step × List PileView)). HoldsSo Marked e) (sym b) tt
+behind_marked p piles Stuck d plain m b = subst (λ (e : Done (Step × List PileView)). HoldsSo Marked e) (sym b) tt
 
 no_elements : (x : Passing) → IsOfTask x → (copying : Copying) → x ≡ passing.Elements copying → ⊥
 no_elements x of copying is = subst IsOfTask is of
@@ -211,18 +215,18 @@ plain_passed p t (passing.Ended words) h first of b = rests_plain first (ended_r
 plain_passed p t (passing.Elements copying) h first of b = absurd of
 
 passes_keep : (p : Program) (K : ℕ → EndKind) (x : Passing) (piles : List PileView) (h : Held) (d : Done (Step × List PileView)) → AreDistinct p.types.now → HostPassesNone p → IsOfTask x
-    → PassesWell p x h → HasMarks h → EndsKept K h → PassSteps Passes p x piles h d → GivesSo Marked d
+    → PassesWell p x h → HasMarks h → EndsKept K h → PassSteps Passes p x piles h d → HoldsSo Marked d
 passes_keep p K x piles h d distinct host of well marks kept (first, passes, behind) = by_acting (slice_get h.chain (length h.chain - 1)) refl passes
   where
-    by_acting : (o : Option ℕ) → slice_get h.chain (length h.chain - 1) ≡ o → Behind (let e : Done ℕ = given o (λ t. Gives t h) in e) (λ t k e. PassesFor p t x k e) first → GivesSo Marked d
-    by_acting None is b = behind_marked p piles first d (subst (λ (e : Done Flow). GivesBy IsPlain e) (sym b) tt) (subst (λ (e : Done Flow). GivesSo Marked e) (sym b) tt) behind
+    by_acting : (o : Option ℕ) → slice_get h.chain (length h.chain - 1) ≡ o → Behind (let e : Done ℕ = given o (λ t. Gives t h) in e) (λ t k e. PassesFor p t x k e) first → HoldsSo Marked d
+    by_acting None is b = behind_marked p piles first d (subst (λ (e : Done Flow). GivesBy IsPlain e) (sym b) tt) (subst (λ (e : Done Flow). HoldsSo Marked e) (sym b) tt) behind
     by_acting (Some t) is b =
         behind_marked p piles first d (plain_passed p t x h first of b)
         (passed_marked p t distinct (host_ends p host) K x h first (no_elements x of) (well.now t is) kept b (but_of (Unit {0}) t h marks well.tables (λ c. kept.marked))) behind
 
-as_given : {A : Type 0} (d : Done A) → GivesSo Marked d → GivesMarked d
+as_given : {A : Type 0} (d : Done A) → HoldsSo Marked d → GivesMarked d
 as_given (Gives x k) m = m
-as_given (Traps why k) m = tt
+as_given (Traps why k) m = m
 as_given (Spent k) m = tt
 as_given Stuck m = tt
 
@@ -232,6 +236,22 @@ passing_keeps_ends p K passing.Arguments piles h d distinct host of well marks k
 passing_keeps_ends p K passing.Returned piles h d distinct host of well marks kept steps = as_given d (passes_keep p K passing.Returned piles h d distinct host of well marks kept steps)
 passing_keeps_ends p K (passing.Ended words) piles h d distinct host of well marks kept steps = as_given d (passes_keep p K (passing.Ended words) piles h d distinct host of well marks kept steps)
 passing_keeps_ends p K (passing.Elements copying) piles h d distinct host of well marks kept steps = absurd of
+
+-- Elements go over.
+over_keeps : (p : Program) (K : ℕ → EndKind) (copying : Copying) (piles : List PileView) (h : Held) (d : Done (Step × List PileView)) → AreDistinct p.types.now → HasEndOf p p.types.now h copying
+    → MayBeAt p.types.now (value_of p copying.canon) (element_at p.graph.now copying.canon) → PassesWell p (passing.Elements copying) h → HasMarks h → EndsKept K h
+    → PassSteps Passes p (passing.Elements copying) piles h d → HoldsSo Marked d
+over_keeps p K copying piles h d distinct has fits well marks kept (first, passes, behind) = by_acting (slice_get h.chain (length h.chain - 1)) refl passes
+  where
+    by_acting : (o : Option ℕ) → slice_get h.chain (length h.chain - 1) ≡ o
+        → Behind (let e : Done ℕ = given o (λ t. Gives t h) in e) (λ t k e. PassesFor p t (passing.Elements copying) k e) first → HoldsSo Marked d
+    by_acting None is b = behind_marked p piles first d (subst (λ (e : Done Flow). GivesBy IsPlain e) (sym b) tt) (subst (λ (e : Done Flow). HoldsSo Marked e) (sym b) tt) behind
+    by_acting (Some t) is b =
+        behind_marked p piles first d (transferred_plain p t copying h first b)
+        (transferred_marked p t distinct K t copying h first has fits (well.now t is) kept b (but_of (Unit {0}) t h marks well.tables (λ c. kept.marked))) behind
+
+pub elements_keep_ends : ElementsKeepEnds
+elements_keep_ends p K copying piles h d distinct has fits well marks kept steps = as_given d (over_keeps p K copying piles h d distinct has fits well marks kept steps)
 
 -- What the script gives.
 item_none : (o : Option Item) (values : List Value) → ((next : Item) → o ≡ Some next → ItemPassesNoEnd next) → values_in o ≡ Some values → ends_of values ≡ []

@@ -39,12 +39,12 @@ use Rattle.run_laws.proofs.keeping.still.Entries.{removed_stood}
 use Rattle.run_laws.proofs.keeping.still.EndsLifted.{IsLowFor, SpentSo, Comes}
 
 -- The machine's ledger over the same table, where an end is wanted by its kind and its elements.
-abbrev what_of : machine.What → ledgers.What
+abbrev pub what_of : machine.What → ledgers.What
 what_of (AnOwn resource) = ledgers.AnOwn resource
 what_of (ABorrow resource) = ledgers.ABorrow resource
 what_of (AnEnd kind element) = ledgers.AnEnd (ends_type kind element)
 
-abbrev used_as : machine.Use → ledgers.Use
+abbrev pub used_as : machine.Use → ledgers.Use
 used_as u = record { what = what_of u.what; index = u.index; place = u.place }
 
 abbrev pub by_kinds : List ValType → machine.Ledger (Kept WorldEntry) (Stop WorldEntry)
@@ -68,12 +68,12 @@ kinds_same types = record {
 }
 
 -- A readable end that is found.
-record Found (o : Option WorldEntry) (number : ℕ) : Type 0 where
-  end : EndEntry
-  is : o ≡ Some (entry.End end)
-  side : end.side ≡ Reader
-  same : end.number ≡ number
-  idle : end.is_idle ≡ true
+pub record Found (o : Option WorldEntry) (number : ℕ) : Type 0 where
+  pub end : EndEntry
+  pub is : o ≡ Some (entry.End end)
+  pub side : end.side ≡ Reader
+  pub same : end.number ≡ number
+  pub idle : end.is_idle ≡ true
 
 idle_so : (b : Bool) (n number : ℕ) → ◌≡◌ {A = Result ℕ Refusal} (if b then Ok n else Err refusal.NotIdle) (Ok number) → (b ≡ true) × (n ≡ number)
 idle_so true n number e = (refl, ok_same e)
@@ -88,12 +88,26 @@ by_side Reader e of number is h =
     (let p = end_so of (record { number = e.number; is_idle = e.is_idle }) number h in (p.0, record { end = e; is = refl; side = is; same = p.2; idle = p.1 }))
 by_side Writer e of number is h = absurd (cc)
 
-found_so : (o : Option WorldEntry) (of : Bool) (number : ℕ) → end_in (option_map seen_as o) of ≡ Ok number → (of ≡ true) × Found o number
+pub found_so : (o : Option WorldEntry) (of : Bool) (number : ℕ) → end_in (option_map seen_as o) of ≡ Ok number → (of ≡ true) × Found o number
 found_so None of number h = absurd (cc)
 found_so (Some (entry.Handle x)) of number h = absurd (cc)
 found_so (Some (entry.Subtask callee)) of number h = absurd (cc)
 found_so (Some (entry.Set set)) of number h = absurd (cc)
 found_so (Some (entry.End e)) of number h = by_side e.side e of number refl h
+
+-- The type that it has is the one that is wanted.
+type_so : (o : Option ValType) (type : ValType) → is_of_by same_val o type ≡ true → o ≡ Some type
+type_so None type h = absurd (cc)
+type_so (Some t) type h = ap (λ (x : ValType). Some x) ((val_told t type).0 h)
+
+found_type : (types : List ValType) (o : Option WorldEntry) (e : EndEntry) → o ≡ Some (entry.End e) → e.side ≡ Reader → type_in types (option_and_then end_type_of o) ≡ slice_get types e.end_type
+found_type types o e is side =
+    ap (λ (x : Option WorldEntry). type_in types (option_and_then end_type_of x)) is ∙ ap (λ (s : Side). type_in types (readable_type s e)) side
+
+pub end_typed : (types : List ValType) (s : Slots WorldEntry) (index : ℕ) (type : ValType) (e : EndEntry) → entry_at s index ≡ Some (entry.End e) → e.side ≡ Reader
+    → is_end_at end_type_of types s index type ≡ true → slice_get types e.end_type ≡ Some type
+end_typed types s index type e is side of =
+    sym (found_type types (entry_at s index) e is side) ∙ type_so (type_in types (option_and_then end_type_of (entry_at s index))) type of
 
 -- A handle that is lent is one still.
 handle_stands : (s : Slots WorldEntry) (x : Handle) (index n : ℕ) (d : EndEntry) → entry_at (with_entry index (entry.Handle x) s) n ≡ Some (entry.End d) → entry_at s n ≡ Some (entry.End d)
@@ -142,11 +156,6 @@ module _ (streams futures : List Channel) (types : List ValType) (distinct : Are
   borrow_took resource u k (Ok x) m = (tt, λ index e stood. m index e (lent_stood k.slots u.index (handles.view_at seen_as k.slots u.index) index e stood))
   borrow_took resource u k (Err why) m = tt
 
-  -- The type that it has is the one that is wanted.
-  type_so : (o : Option ValType) (type : ValType) → is_of_by same_val o type ≡ true → o ≡ Some type
-  type_so None type h = absurd (cc)
-  type_so (Some t) type h = ap (λ (x : ValType). Some x) ((val_told t type).0 h)
-
   as_marked : (e : EndEntry) (place number : ℕ) → e.side ≡ Reader → e.end_type ≡ place → e.number ≡ number → e.is_idle ≡ true → EndMarked streams futures e
       → EndMarked streams futures (record { side = Reader; end_type = place; number = number; is_idle = true })
   as_marked e place number side type same idle m =
@@ -155,15 +164,10 @@ module _ (streams futures : List Channel) (types : List ValType) (distinct : Are
       (subst (λ (n : ℕ). EndMarked streams futures (record { side = e.side; end_type = e.end_type; number = n; is_idle = true })) same
       (subst (λ (b : Bool). EndMarked streams futures (record { side = e.side; end_type = e.end_type; number = e.number; is_idle = b })) idle m)))
 
-  found_type : (o : Option WorldEntry) (e : EndEntry) → o ≡ Some (entry.End e) → e.side ≡ Reader → type_in types (option_and_then end_type_of o) ≡ slice_get types e.end_type
-  found_type o e is side =
-      ap (λ (x : Option WorldEntry). type_in types (option_and_then end_type_of x)) is ∙ ap (λ (s : Side). type_in types (readable_type s e)) side
-
   end_comes : (k : Kept WorldEntry) (index number : ℕ) (kind : EndKind) (element : Option ValType) (e : EndEntry) → entry_at k.slots index ≡ Some (entry.End e) → e.side ≡ Reader → e.number ≡ number
       → e.is_idle ≡ true → is_end_at end_type_of types k.slots index (ends_type kind element) ≡ true → Marked k → Comes_so (ends_type kind element) number
   end_comes k index number kind element e is side same idle of m place there =
-      let typed : slice_get types e.end_type ≡ Some (ends_type kind element) =
-      sym (found_type (entry_at k.slots index) e is side) ∙ type_so (type_in types (option_and_then end_type_of (entry_at k.slots index))) (ends_type kind element) of in
+      let typed : slice_get types e.end_type ≡ Some (ends_type kind element) = end_typed types k.slots index (ends_type kind element) e is side of in
       as_marked e place number side (distinct e.end_type place (ends_type kind element) typed there) same idle (m index e is)
 
   end_took : (kind : EndKind) (element : Option ValType) (u : ledgers.Use) (k : Kept WorldEntry) (r : Result ℕ Refusal)

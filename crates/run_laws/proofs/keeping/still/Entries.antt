@@ -26,7 +26,7 @@ use Rattle.trace_labels.specs.declared.trap.TrapName.TheVariants as trap
 use Rattle.world_parts.specs.Held.{Held, Gives, Traps, Stuck, given}
 use Rattle.world_parts.specs.Entries.{with_instance, subtask_number, set_number, entry_found, subtask_found, set_found, subtask_known, set_known, waitable_found, end_found, rep_found, sets_made, named, entry_added, removed_of, entry_removed, dropped_of, handle_dropped, lend_ended, end_idled, set_made, set_joined, set_left, set_gone, set_dropped, set_waited_on, set_waited_off}
 use Rattle.standing.proofs.marks.Tables.{filled_either}
-use Rattle.run_laws.proofs.keeping.still.Still.{Kinds, no_kinds, still_bare, Still, StillBy, still_same, still_given, still_if, still_instance, still_table}
+use Rattle.run_laws.proofs.keeping.still.Still.{Kinds, no_kinds, still_bare, Still, StillBy, still_same, still_given, still_if, still_instance, still_table, ends_same}
 
 -- An end that stands in a table where an entry that is none has come, one has left, or a handle is lent once less, stood there.
 no_end : (e : WorldEntry) (d : EndEntry) → is_some (any_end_in (Some e)) ≡ false → Some e ≡ Some (entry.End d) → ⊥
@@ -70,7 +70,7 @@ given_stood s index (Some (seen.Handle x)) n d has = handle_stands s (handles.wi
 -- What is found, or a trap.
 pub named_still : (W : Kinds) → {A : Type 0} (r : Result A Refusal) (h : Held) → StillBy W h (named r h)
 named_still W (Ok x) h = still_same W h
-named_still W (Err why) h = tt
+named_still W (Err why) h = ends_same W h
 
 -- An instance is written back as it was.
 same_instance : (W : Kinds) → (h : Held) (at : ℕ) (i : InstanceView) → slice_get h.instances at ≡ Some i → Still W h (with_instance at i h)
@@ -82,7 +82,7 @@ entry_added_still W at e h none =
     (λ i. if nat_lt (count i.slots) most_live then Gives (next_of i.slots) (with_instance at (instance.entry_added e i) h) else Traps trap.TableFull (with_instance at i h))
     (λ i is.
     still_if W h (nat_lt (count i.slots) most_live) (Gives (next_of i.slots) (with_instance at (instance.entry_added e i) h)) (Traps trap.TableFull (with_instance at i h))
-    (still_table W h at i (instance.entry_added e i) is (λ index d has. added_stood i.slots e none index d has)) tt)
+    (still_table W h at i (instance.entry_added e i) is (λ index d has. added_stood i.slots e none index d has)) (same_instance W h at i is).ends)
 
 -- Whatever comes, and where an end is said to be idle or not, but for ends.
 pub entry_added_bare : (at : ℕ) (e : WorldEntry) (h : Held) → StillBy no_kinds h (entry_added at e h)
@@ -91,7 +91,7 @@ entry_added_bare at e h =
     (λ i. if nat_lt (count i.slots) most_live then Gives (next_of i.slots) (with_instance at (instance.entry_added e i) h) else Traps trap.TableFull (with_instance at i h))
     (λ i is.
     still_if no_kinds h (nat_lt (count i.slots) most_live) (Gives (next_of i.slots) (with_instance at (instance.entry_added e i) h)) (Traps trap.TableFull (with_instance at i h))
-    (still_bare h (with_instance at (instance.entry_added e i) h) refl refl) tt)
+    (still_bare h (with_instance at (instance.entry_added e i) h) refl refl) (same_instance no_kinds h at i is).ends)
 
 pub end_idled_bare : (at index : ℕ) (is_idle : Bool) (h : Held) → StillBy no_kinds h (end_idled at index is_idle h)
 end_idled_bare at index is_idle h =
@@ -111,7 +111,7 @@ entry_removed_still W at index h =
 
 dropped_of_still : (W : Kinds) → (r : Result Handle Refusal) (at index : ℕ) (i : InstanceView) (h : Held) → slice_get h.instances at ≡ Some i → StillBy W h (dropped_of r at index i h)
 dropped_of_still W (Ok x) at index i h is = still_table W h at i (instance.entry_removed index i) is (λ n d has. removed_stood i.slots index n d has)
-dropped_of_still W (Err why) at index i h is = tt
+dropped_of_still W (Err why) at index i h is = (same_instance W h at i is).ends
 
 pub handle_dropped_still : (W : Kinds) → (at index resource : ℕ) (h : Held) → StillBy W h (handle_dropped at index resource h)
 handle_dropped_still W at index resource h =
@@ -151,7 +151,7 @@ set_gone_still : (W : Kinds) → (r : Result (Unit {0}) DropSetError) (at : ℕ)
     → StillBy W h (set_gone r (with_instance at i h))
 set_gone_still W (Ok done) at i h is = same_instance W h at i is
 set_gone_still W (Err drop_error.NoSet) at i h is = tt
-set_gone_still W (Err (drop_error.Refused why)) at i h is = tt
+set_gone_still W (Err (drop_error.Refused why)) at i h is = (same_instance W h at i is).ends
 
 pub set_dropped_still : (W : Kinds) → (at set : ℕ) (h : Held) → StillBy W h (set_dropped at set h)
 set_dropped_still W at set h =

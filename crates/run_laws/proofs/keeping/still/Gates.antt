@@ -47,7 +47,7 @@ pressure_raised_still W at h =
     (λ i. if nat_lt i.gate.pressure 65535 then Gives (tt {0}) (with_instance at (with_gate (with_pressure (i.gate.pressure + 1) i.gate) i) h) else Traps trap.PressureLimit (with_instance at i h))
     (λ i is.
     still_if W h (nat_lt i.gate.pressure 65535) (Gives (tt {0}) (with_instance at (with_gate (with_pressure (i.gate.pressure + 1) i.gate) i) h)) (Traps trap.PressureLimit (with_instance at i h))
-    (gate_still W h at i (with_pressure (i.gate.pressure + 1) i.gate) is) tt)
+    (gate_still W h at i (with_pressure (i.gate.pressure + 1) i.gate) is) (still_instance W h at i i is refl).ends)
 
 pub pressure_lowered_still : (W : Kinds) → (at : ℕ) (h : Held) → StillBy W h (pressure_lowered at h)
 pressure_lowered_still W at h =
@@ -55,7 +55,7 @@ pressure_lowered_still W at h =
     (λ i. if nat_lt 0 i.gate.pressure then Gives (tt {0}) (with_instance at (with_gate (with_pressure (i.gate.pressure - 1) i.gate) i) h) else Traps trap.PressureZero (with_instance at i h))
     (λ i is.
     still_if W h (nat_lt 0 i.gate.pressure) (Gives (tt {0}) (with_instance at (with_gate (with_pressure (i.gate.pressure - 1) i.gate) i) h)) (Traps trap.PressureZero (with_instance at i h))
-    (gate_still W h at i (with_pressure (i.gate.pressure - 1) i.gate) is) tt)
+    (gate_still W h at i (with_pressure (i.gate.pressure - 1) i.gate) is) (still_instance W h at i i is refl).ends)
 
 pub pressure_set_still : (W : Kinds) → (at enabled : ℕ) (h : Held) → StillBy W h (pressure_set at enabled h)
 pressure_set_still W at enabled h =

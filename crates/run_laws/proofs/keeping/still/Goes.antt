@@ -4,7 +4,7 @@ use Rattle.wasm_store.specs.Store.{Instance}
 use Rattle.builtin_kinds.specs.declared.EndKind.{EndKind}
 use Rattle.world_parts.specs.Held.{Held, Done, Gives, Traps, Spent, Stuck, after, given}
 use Rattle.run_laws.specs.keeping.Still.{first_of, MemoriesKept, EndsKept}
-use Rattle.run_laws.proofs.keeping.still.Still.{Kinds, Still, StillBy}
+use Rattle.run_laws.proofs.keeping.still.Still.{Kinds, Still, StillBy, EndsAsked}
 
 pub record Stays (W : Kinds) (h k : Held) : Type 0 where
   pub memories : MemoriesKept h → MemoriesKept k
@@ -12,7 +12,7 @@ pub record Stays (W : Kinds) (h k : Held) : Type 0 where
 
 abbrev pub StaysBy : {A : Type 0} → Kinds → Held → Done A → Type 0
 StaysBy W h (Gives x k) = Stays W h k
-StaysBy W h (Traps why k) = Unit {0}
+StaysBy W h (Traps why k) = EndsAsked W h k
 StaysBy W h (Spent k) = Unit {0}
 StaysBy W h Stuck = Unit {0}
 
@@ -24,7 +24,7 @@ of_still W h k p = record {
 
 pub by_still : {A : Type 0} (W : Kinds) (h : Held) (d : Done A) → StillBy W h d → StaysBy W h d
 by_still W h (Gives x k) p = of_still W h k p
-by_still W h (Traps why k) p = tt
+by_still W h (Traps why k) p = p
 by_still W h (Spent k) p = tt
 by_still W h Stuck p = tt
 
@@ -33,13 +33,13 @@ stays_same W h = record { memories = λ kept. kept; ends = λ K is kept. kept }
 
 pub stays_through : {A : Type 0} (W : Kinds) (h k : Held) (d : Done A) → Stays W h k → StaysBy W k d → StaysBy W h d
 stays_through W h k (Gives x l) p q = record { memories = λ kept. q.memories (p.memories kept); ends = λ K is kept. q.ends K is (p.ends K is kept) }
-stays_through W h k (Traps why l) p q = tt
+stays_through W h k (Traps why l) p q = λ K is kept. q K is (p.ends K is kept)
 stays_through W h k (Spent l) p q = tt
 stays_through W h k Stuck p q = tt
 
 pub stays_after : {A B : Type 0} (W : Kinds) (h : Held) (d : Done A) (f : A → Held → Done B) → StaysBy W h d → ((x : A) (k : Held) → StaysBy W k (f x k)) → StaysBy W h (after d f)
 stays_after W h (Gives x k) f p q = stays_through W h k (f x k) p (q x k)
-stays_after W h (Traps why k) f p q = tt
+stays_after W h (Traps why k) f p q = p
 stays_after W h (Spent k) f p q = tt
 stays_after W h Stuck f p q = tt
 

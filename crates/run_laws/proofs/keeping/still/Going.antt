@@ -68,7 +68,7 @@ leaves_still W h =
 pub ending_still : (W : Kinds) → (t : ℕ) (h : Held) → StillBy W h (ending t h)
 unfolding ending
 ending_still W t h =
-    still_after W h (resolution_of t h) (λ resolution k. if is_none resolution then Traps trap.Unresolved k else Gives flow.Rests (at_rest rest.Leaves k)) (resolution_of_still W t h) (λ resolution k. still_if W k (is_none resolution) (Traps trap.Unresolved k) (Gives flow.Rests (at_rest rest.Leaves k)) tt (still_all W k (at_rest rest.Leaves k) refl refl refl refl refl))
+    still_after W h (resolution_of t h) (λ resolution k. if is_none resolution then Traps trap.Unresolved k else Gives flow.Rests (at_rest rest.Leaves k)) (resolution_of_still W t h) (λ resolution k. still_if W k (is_none resolution) (Traps trap.Unresolved k) (Gives flow.Rests (at_rest rest.Leaves k)) (λ K asked kept. kept) (still_all W k (at_rest rest.Leaves k) refl refl refl refl refl))
 
 pub looped_still : (W : Kinds) → (t : ℕ) (at : ℕ) (word : ℕ) (why : BlockReason) (h : Held) → StillBy W h (looped t at word why h)
 unfolding looped
@@ -82,7 +82,7 @@ looped_at_set_still W t at word index why h =
 
 pub loops_by_still : (W : Kinds) → (t : ℕ) (at : ℕ) (word : ℕ) (r : Result Next BadCode) (h : Held) → StillBy W h (loops_by t at word r h)
 loops_by_still W t at word (Err why) h =
-    tt
+    (λ K asked kept. kept)
 loops_by_still W t at word (Ok next.Exit) h =
     ending_still W t h
 loops_by_still W t at word (Ok next.Yield) h =

@@ -39,7 +39,7 @@ resource_rep_still W t at resource words h =
 pub undestroyed_still : (W : Kinds) → (t : ℕ) (at : ℕ) (instance : ℕ) (h : Held) → StillBy W h (undestroyed t at instance h)
 unfolding undestroyed
 undestroyed_still W t at instance h =
-    still_if W h (not (nat_eq instance at) && reenters instance t h) (Traps trap.Reentrant h) (got t [] h) tt (got_still W t [] h)
+    still_if W h (not (nat_eq instance at) && reenters instance t h) (Traps trap.Reentrant h) (got t [] h) (λ K asked kept. kept) (got_still W t [] h)
 
 pub destroyed_by_still : (W : Kinds) → (t : ℕ) (at : ℕ) (canon : ℕ) (x : Handle) (instance : ℕ) (ref : FuncRef) (h : Held) → StillBy W h (destroyed_by t at canon x instance ref h)
 unfolding destroyed_by

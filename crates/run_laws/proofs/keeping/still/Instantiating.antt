@@ -26,7 +26,7 @@ use Rattle.world_stacks.specs.Starting.{started}
 use Rattle.world_stacks.specs.Instantiating.{init_exits, begun, core_made, core_added, started_by, start_of, started_up, made, acted, instantiates}
 use Rattle.abi_machine.proofs.sound.Found.{some_same}
 use Rattle.run_laws.specs.keeping.Still.{first_of, MemoriesKept}
-use Rattle.run_laws.proofs.keeping.still.Still.{Kinds, StillBy, still_after, still_all, stood_ends}
+use Rattle.run_laws.proofs.keeping.still.Still.{Kinds, StillBy, still_after, still_all, stood_ends, ends_same}
 use Rattle.run_laws.proofs.keeping.still.Goes.{StaysBy, by_still, stays_same, stays_after, stays_given}
 use Rattle.run_laws.proofs.keeping.still.Modules.{AddedBy, adds_one}
 use Rattle.run_laws.proofs.keeping.still.Feed.{left_chain_still}
@@ -73,7 +73,7 @@ one_more h s one i more found kept =
     ∙ sym (ap (λ (all : List Instance). map first_of all) more ∙ map-append first_of h.store.instances (one ∷ []))
 
 core_made_stays : (W : Kinds) (made : Instantiation) (h : Held) (one : Instance) → AddedBy (h.store.instances ++ one ∷ []) made → StaysBy W h (core_made made h)
-core_made_stays W (core.SegmentBounds s) h one more = tt
+core_made_stays W (core.SegmentBounds s) h one more = ends_same W h
 core_made_stays W (core.Makes s) h one more = by_instance (slice_get s.instances (length h.store.instances)) refl
   where
     by_instance : (o : Option Instance) → slice_get s.instances (length h.store.instances) ≡ o

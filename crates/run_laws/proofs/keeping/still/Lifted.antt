@@ -33,7 +33,7 @@ use Rattle.value_parts.specs.Lifting.{over_table, settled, loaded, elements_lift
 use Rattle.value_parts.specs.Passing.{passed_limit, arguments_passed, arguments_by, arguments_lifted, typed_result, result_of_type, result_by, result_lifted, ended_lifted, returned_lifted}
 use Rattle.run_laws.proofs.keeping.still.Slots.{instance_of_still, callee_of_still, words_of_still}
 use Rattle.run_laws.proofs.keeping.still.Moved.{all_moved_still}
-use Rattle.run_laws.proofs.keeping.still.Still.{no_kinds, StillBy, still_after, still_given, still_if, still_same, still_behind, still_bare}
+use Rattle.run_laws.proofs.keeping.still.Still.{no_kinds, StillBy, still_after, still_given, still_if, still_same, still_behind, still_bare, bare_ends}
 
 -- The table of the instance is what lifting left, and what it moved is told.
 settled_still : {A : Type 0} (from : Origin) (i : InstanceView) (r : Result (A × Slots WorldEntry × List Moved) (Stop WorldEntry)) (h : Held) → StillBy no_kinds h (settled from i r h)
@@ -44,8 +44,8 @@ settled_still from i (Ok x) h =
 settled_still {A} from i (Err stop) h = trapped A (all_moved from.at from.callee stop.moved (with_instance from.at (with_slots stop.slots i) h))
   where
     trapped : {B : Type 0} (C : Type 0) (d : Done B) → (let e : Done C = after d (λ done k. Traps (lift_name stop.trap.why) k) in StillBy no_kinds h e)
-    trapped C (Gives z l) = tt
-    trapped C (Traps why l) = tt
+    trapped C (Gives z l) = bare_ends h l
+    trapped C (Traps why l) = bare_ends h l
     trapped C (Spent l) = tt
     trapped C Stuck = tt
 

@@ -36,7 +36,7 @@ use Rattle.world_parts.specs.Held.{Held, Done, Gives, Traps, Spent, Stuck, after
 use Rattle.world_parts.specs.Slots.{context_set}
 use Rattle.value_moves.specs.declared.lowering.Destination.{Destination}
 use Rattle.value_moves.specs.Lowering.{Site, site_found, all_told, call_refused, code_trapped, lowered_by, finished, setting_in, begun_at, left_at, LowersAt, LowersInto, LowersAll}
-use Rattle.run_laws.proofs.keeping.still.Still.{no_kinds, StillBy, still_behind, still_bare}
+use Rattle.run_laws.proofs.keeping.still.Still.{no_kinds, StillBy, still_behind, still_bare, bare_ends}
 use Rattle.run_laws.proofs.keeping.still.Coming.{comes_still}
 use Rattle.run_laws.proofs.keeping.still.Modules.{run_keeps}
 use Rattle.run_laws.proofs.keeping.still.Sites.{site_found_still, finished_still}
@@ -89,7 +89,7 @@ module _ (task : ℕ) (types : List ValType) (to : Setting) where
 -- Where no words come nothing goes on.
 any_after : {A B : Type 0} (h : Held) (d : Done A) (f : A → Held → Done B) → ((x : A) (k : Held) → StillBy no_kinds h (f x k)) → StillBy no_kinds h (after d f)
 any_after h (Gives x k) f p = p x k
-any_after h (Traps why k) f p = tt
+any_after h (Traps why k) f p = bare_ends h k
 any_after h (Spent k) f p = tt
 any_after h Stuck f p = tt
 
@@ -100,18 +100,18 @@ IsOtherEnd (lowered.Trapped why) = Unit {0}
 IsOtherEnd lowered.NoFuel = Unit {0}
 
 refused_not : (h k : Held) (why : CallRefusal) → StillBy no_kinds h (call_refused why k)
-refused_not h k refusal.CannotLeave = tt
-refused_not h k (refusal.Refused why) = tt
+refused_not h k refusal.CannotLeave = bare_ends h k
+refused_not h k (refusal.Refused why) = bare_ends h k
 refused_not h k refusal.NoRule = tt
 
 trapped_not : (h k : Held) (why : HostedTrap) → StillBy no_kinds h (code_trapped why k)
-trapped_not h k (hosted.Core why) = tt
+trapped_not h k (hosted.Core why) = bare_ends h k
 trapped_not h k (hosted.Call why) = refused_not h k why
 trapped_not h k hosted.NoRealloc = tt
 
 ended_not : (h k : Held) (came : Lowered) → IsOtherEnd came → StillBy no_kinds h (lowered_by came k)
 ended_not h k (lowered.Words words) q = absurd q
-ended_not h k (lowered.Failed why) q = tt
+ended_not h k (lowered.Failed why) q = bare_ends h k
 ended_not h k (lowered.Trapped why) q = trapped_not h k why
 ended_not h k lowered.NoFuel q = tt
 

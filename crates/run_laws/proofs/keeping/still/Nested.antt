@@ -12,13 +12,13 @@ use Rattle.world_stacks.specs.Piles.{resumed}
 use Rattle.world_stacks.specs.Starting.{gives_words}
 use Rattle.world_stacks.specs.Exempt.{exempt_answer}
 use Rattle.world_stacks.specs.PostReturns.{answer_or_trap, answered, answered_by, answered_in_place, goes_on_with}
-use Rattle.run_laws.proofs.keeping.still.Still.{no_kinds, StillBy, still_after, still_given, still_if, still_same}
+use Rattle.run_laws.proofs.keeping.still.Still.{no_kinds, StillBy, still_after, still_given, still_if, still_same, bare_ends}
 use Rattle.run_laws.proofs.keeping.still.Exempt.{exempt_answer_still}
 use Rattle.run_laws.proofs.keeping.still.Feed.{told_still}
 
 pub answer_or_trap_still : (o : Option (List ℕ)) (h : Held) → StillBy no_kinds h (answer_or_trap o h)
 answer_or_trap_still None h =
-    tt
+    bare_ends h h
 answer_or_trap_still (Some answer) h =
     still_same no_kinds h
 

@@ -14,7 +14,7 @@ use Rattle.world_parts.specs.Held.{Held, Done, Gives, held}
 use Rattle.world_stacks.specs.PostReturns.{answered_in_place, Point, Runs, GoesOn, GoOn, EndsWith, NestedEnds, BeginsNested, PostReturns, instance_at}
 use Rattle.world_stacks.specs.Starting.{call_of}
 use Rattle.value_moves.specs.Resolving.{PostReturnsTo}
-use Rattle.run_laws.proofs.keeping.still.Still.{no_kinds, Still, StillBy, still_all, still_same, still_further}
+use Rattle.run_laws.proofs.keeping.still.Still.{no_kinds, Still, StillBy, still_all, still_same, still_further, bare_ends}
 use Rattle.run_laws.proofs.keeping.still.Nested.{answered_in_place_still}
 use Rattle.run_laws.proofs.keeping.still.Modules.{run_keeps}
 
@@ -54,7 +54,7 @@ returned_still g t (Some func) words h new b = begun_still g t (instance_at t h)
 
 pub post_returns_still : (p : Program) (t : ℕ) (post : Option FuncRef) (words : List ℕ) (h : Held) (d : Done (Unit {0})) → PostReturnsTo p t post words h d → StillBy no_kinds h d
 post_returns_still p t post words h d (Ok tt, new, returns, is) = subst (StillBy no_kinds h) (sym is) (returned_still p.graph.now t post words h new returns)
-post_returns_still p t post words h d (Err (stop.Trap why), new, returns, is) = subst (StillBy no_kinds h) (sym is) tt
+post_returns_still p t post words h d (Err (stop.Trap why), new, returns, is) = subst (StillBy no_kinds h) (sym is) (bare_ends h (held new))
 post_returns_still p t post words h d (Err stop.NoFuel, new, returns, is) = subst (StillBy no_kinds h) (sym is) tt
 post_returns_still p t post words h d (Err stop.Stuck, new, returns, is) = subst (StillBy no_kinds h) (sym is) tt
 post_returns_still p t post words h d (Err stop.Memory, new, returns, is) = absurd is

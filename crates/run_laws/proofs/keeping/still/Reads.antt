@@ -34,7 +34,7 @@ unfolding placed_well
 placed_well_still None memory place count h =
     still_same no_kinds h
 placed_well_still (Some element) memory place count h =
-    still_if no_kinds h (nat_eq count 0) (Gives (tt {0}) h) (if not (nat_eq (place % (laid element).align) 0) then Traps trap.Misaligned h else if not (nat_le (place + count * (laid element).size) (length (bytes_at memory h.store))) then Traps trap.Bounds h else Gives (tt {0}) h) (still_same no_kinds h) (still_if no_kinds h (not (nat_eq (place % (laid element).align) 0)) (Traps trap.Misaligned h) (if not (nat_le (place + count * (laid element).size) (length (bytes_at memory h.store))) then Traps trap.Bounds h else Gives (tt {0}) h) tt (still_if no_kinds h (not (nat_le (place + count * (laid element).size) (length (bytes_at memory h.store)))) (Traps trap.Bounds h) (Gives (tt {0}) h) tt (still_same no_kinds h)))
+    still_if no_kinds h (nat_eq count 0) (Gives (tt {0}) h) (if not (nat_eq (place % (laid element).align) 0) then Traps trap.Misaligned h else if not (nat_le (place + count * (laid element).size) (length (bytes_at memory h.store))) then Traps trap.Bounds h else Gives (tt {0}) h) (still_same no_kinds h) (still_if no_kinds h (not (nat_eq (place % (laid element).align) 0)) (Traps trap.Misaligned h) (if not (nat_le (place + count * (laid element).size) (length (bytes_at memory h.store))) then Traps trap.Bounds h else Gives (tt {0}) h) (λ K asked kept. kept) (still_if no_kinds h (not (nat_le (place + count * (laid element).size) (length (bytes_at memory h.store)))) (Traps trap.Bounds h) (Gives (tt {0}) h) (λ K asked kept. kept) (still_same no_kinds h)))
 
 pub idle_said_still : (c : CopyCall) (number : ℕ) (h : Held) → StillBy no_kinds h (idle_said c number h)
 unfolding idle_said
@@ -77,11 +77,11 @@ meets_still g c number h =
 pub placed_and_met_still : (g : Views) (element : Option ValType) (c : CopyCall) (number : ℕ) (is_inside : Bool) (h : Held) → StillBy no_kinds h (placed_and_met g element c number is_inside h)
 unfolding placed_and_met
 placed_and_met_still g element c number is_inside h =
-    still_after no_kinds h (placed_well element (memory_of (g.options c.canon) h) c.place c.length h) (λ done k. if is_inside then Traps trap.SameInstance k else meets g c number k) (placed_well_still element (memory_of (g.options c.canon) h) c.place c.length h) (λ done k. still_if no_kinds k (is_inside) (Traps trap.SameInstance k) (meets g c number k) tt (meets_still g c number k))
+    still_after no_kinds h (placed_well element (memory_of (g.options c.canon) h) c.place c.length h) (λ done k. if is_inside then Traps trap.SameInstance k else meets g c number k) (placed_well_still element (memory_of (g.options c.canon) h) c.place c.length h) (λ done k. still_if no_kinds k (is_inside) (Traps trap.SameInstance k) (meets g c number k) (λ K asked kept. kept) (meets_still g c number k))
 
 pub copy_tested_still : (g : Views) (element : Option ValType) (c : CopyCall) (number : ℕ) (channel : Channel) (h : Held) → StillBy no_kinds h (copy_tested g element c number channel h)
 copy_tested_still g element c number channel h =
-    still_if no_kinds h (is_copying (end_in c.side channel.ends)) (Traps trap.Busy h) (if (end_in c.side channel.ends).done then Traps trap.DoneEnd h else if nat_lt most_elements c.length then Traps trap.TooLong h else placed_and_met g element c number (is_within g c.at c.side element channel.ends) h) tt (still_if no_kinds h ((end_in c.side channel.ends).done) (Traps trap.DoneEnd h) (if nat_lt most_elements c.length then Traps trap.TooLong h else placed_and_met g element c number (is_within g c.at c.side element channel.ends) h) tt (still_if no_kinds h (nat_lt most_elements c.length) (Traps trap.TooLong h) (placed_and_met g element c number (is_within g c.at c.side element channel.ends) h) tt (placed_and_met_still g element c number (is_within g c.at c.side element channel.ends) h)))
+    still_if no_kinds h (is_copying (end_in c.side channel.ends)) (Traps trap.Busy h) (if (end_in c.side channel.ends).done then Traps trap.DoneEnd h else if nat_lt most_elements c.length then Traps trap.TooLong h else placed_and_met g element c number (is_within g c.at c.side element channel.ends) h) (λ K asked kept. kept) (still_if no_kinds h ((end_in c.side channel.ends).done) (Traps trap.DoneEnd h) (if nat_lt most_elements c.length then Traps trap.TooLong h else placed_and_met g element c number (is_within g c.at c.side element channel.ends) h) (λ K asked kept. kept) (still_if no_kinds h (nat_lt most_elements c.length) (Traps trap.TooLong h) (placed_and_met g element c number (is_within g c.at c.side element channel.ends) h) (λ K asked kept. kept) (placed_and_met_still g element c number (is_within g c.at c.side element channel.ends) h)))
 
 pub read_or_write_still : (g : Views) (element : Option ValType) (c : CopyCall) (h : Held) → StillBy no_kinds h (read_or_write g element c h)
 unfolding read_or_write

@@ -14,7 +14,7 @@ use Rattle.run_laws.proofs.keeping.still.Slots.{callee_of_still}
 
 pub checked_still : (is_same : Bool) (options : Options) (lifted : Options) (h : Held) → StillBy no_kinds h (checked is_same options lifted h)
 checked_still is_same options lifted h =
-    still_if no_kinds h (not is_same) (Traps trap.WrongResult h) (if not (same_memory (memory_of options h) (memory_of lifted h)) then Traps trap.WrongOptions h else Gives (tt {0}) h) tt (still_if no_kinds h (not (same_memory (memory_of options h) (memory_of lifted h))) (Traps trap.WrongOptions h) (Gives (tt {0}) h) tt (still_same no_kinds h))
+    still_if no_kinds h (not is_same) (Traps trap.WrongResult h) (if not (same_memory (memory_of options h) (memory_of lifted h)) then Traps trap.WrongOptions h else Gives (tt {0}) h) (λ K asked kept. kept) (still_if no_kinds h (not (same_memory (memory_of options h) (memory_of lifted h))) (Traps trap.WrongOptions h) (Gives (tt {0}) h) (λ K asked kept. kept) (still_same no_kinds h))
 
 pub return_checked_still : (g : Graph) (t : ℕ) (result : Option ValType) (wanted : Option ValType) (options : Options) (h : Held) → StillBy no_kinds h (return_checked g t result wanted options h)
 return_checked_still g t result wanted options h =

@@ -24,7 +24,7 @@ use Rattle.machine_runs.specs.Moving.{acting_of}
 use Rattle.abi_machine.proofs.sound.Found.{some_same}
 use Rattle.run_laws.proofs.keeping.still.Feed.{told_still}
 use Rattle.run_laws.proofs.keeping.still.Slots.{phase_of_still, errand_of_still, errand_set_still, words_set_still}
-use Rattle.run_laws.proofs.keeping.still.Still.{Kinds, still_all, StillBy, still_after, still_behind, still_given, still_if, still_same}
+use Rattle.run_laws.proofs.keeping.still.Still.{Kinds, still_all, StillBy, still_after, still_behind, still_given, still_if, still_same, ends_same}
 use Rattle.run_laws.proofs.keeping.still.Modules.{run_keeps}
 
 ended_at_still : (W : Kinds) → (t : ℕ) (words : List ℕ) (e : Errand) (h : Held) → StillBy W h (ended_at t words e h)
@@ -59,7 +59,7 @@ outcome_still W t p (outcome.Done words) h d is = subst (StillBy W h) (some_same
 outcome_still W t p (outcome.Calls number words w) h d is =
     let q : PileView = with_top (top.Waits (record { address = number; waiting = w })) p in
     subst (StillBy W h) (some_same is) (still_after {B = Option (List ℕ) × PileView} W h (called t number words h) (λ done m. Gives (None, q) m) (called_still W t number words h) (λ done m. still_same W m))
-outcome_still W t p (outcome.Trapped why) h d is = subst (StillBy W h) (some_same is) tt
+outcome_still W t p (outcome.Trapped why) h d is = subst (StillBy W h) (some_same is) (ends_same W h)
 outcome_still W t p (outcome.NoFuel later) h d is = subst (StillBy W h) (some_same is) tt
 outcome_still W t p outcome.Memory h d is = absurd (cc)
 
@@ -73,7 +73,7 @@ top_still W t (top.Goes k) p h d (o, s, left, gives, e) =
 pile_put : (W : Kinds) → (t : ℕ) (piles : List PileView) (h : Held) (first : Done (Option (List ℕ) × PileView)) (d : Done (Step × List PileView)) → StillBy W h first
     → Behind first (λ r k e. e ≡ Gives (step.GoesOn (passing_behind r.0), slice_set piles t r.1) k) d → StillBy W h d
 pile_put W t piles h (Gives r k) d p is = subst (StillBy W h) (sym is) p
-pile_put W t piles h (Traps why k) d p is = subst (StillBy W h) (sym is) tt
+pile_put W t piles h (Traps why k) d p is = subst (StillBy W h) (sym is) p
 pile_put W t piles h (Spent k) d p is = subst (StillBy W h) (sym is) tt
 pile_put W t piles h Stuck d p is = subst (StillBy W h) (sym is) tt
 

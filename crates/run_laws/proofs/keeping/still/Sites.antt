@@ -20,7 +20,7 @@ use Rattle.world_parts.specs.Feed.{told}
 use Rattle.world_parts.specs.Slots.{context_set}
 use Rattle.value_moves.specs.declared.lowering.Destination.{Destination}
 use Rattle.value_moves.specs.Lowering.{act_told, all_told, call_refused, code_trapped, finished, got_told, lowered_by, site_found}
-use Rattle.run_laws.proofs.keeping.still.Still.{no_kinds, StillBy, still_after, still_given, still_if, still_same}
+use Rattle.run_laws.proofs.keeping.still.Still.{no_kinds, StillBy, still_after, still_given, still_if, still_same, bare_ends}
 use Rattle.run_laws.proofs.keeping.still.Feed.{told_still}
 use Rattle.run_laws.proofs.keeping.still.Slots.{context_set_still}
 
@@ -46,15 +46,15 @@ all_told_still g t (act ∷ acts) h =
 
 pub call_refused_still : (x : CallRefusal) (h : Held) → StillBy no_kinds h (call_refused x h)
 call_refused_still refusal.CannotLeave h =
-    tt
+    bare_ends h h
 call_refused_still (refusal.Refused why) h =
-    tt
+    bare_ends h h
 call_refused_still refusal.NoRule h =
     tt
 
 pub code_trapped_still : (x : HostedTrap) (h : Held) → StillBy no_kinds h (code_trapped x h)
 code_trapped_still (hosted.Core why) h =
-    tt
+    bare_ends h h
 code_trapped_still (hosted.Call why) h =
     call_refused_still why h
 code_trapped_still hosted.NoRealloc h =
@@ -64,7 +64,7 @@ pub lowered_by_still : (x : Lowered) (h : Held) → StillBy no_kinds h (lowered_
 lowered_by_still (lowered.Words words) h =
     still_same no_kinds h
 lowered_by_still (lowered.Failed why) h =
-    tt
+    bare_ends h h
 lowered_by_still (lowered.Trapped why) h =
     code_trapped_still why h
 lowered_by_still lowered.NoFuel h =

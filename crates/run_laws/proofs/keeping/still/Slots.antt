@@ -84,7 +84,7 @@ happened_still W (Ok done) t slot h =
 happened_still W (Err event_error.NotNow) t slot h =
     tt
 happened_still W (Err (event_error.Trap why)) t slot h =
-    tt
+    (still_all W h (with_task t slot h) refl refl refl refl refl).ends
 
 pub happens_still : (W : Kinds) → (t : ℕ) (e : TaskEvent) (h : Held) → StillBy W h (happens t e h)
 happens_still W t e h =

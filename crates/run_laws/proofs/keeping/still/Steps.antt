@@ -179,7 +179,7 @@ step_keeps_memories p (passing.Elements copying) piles h d is = memory_of h d (b
 
 ends_of : {A : Type 0} (K : ℕ → EndKind) (h : Held) (d : Done A) → StaysBy (Some K) h d → KeepsEnds K h d
 ends_of K h (Gives x k) p = p.ends K refl
-ends_of K h (Traps why k) p = tt
+ends_of K h (Traps why k) p = λ kept. (p K refl kept).marked
 ends_of K h (Spent k) p = tt
 ends_of K h Stuck p = tt
 

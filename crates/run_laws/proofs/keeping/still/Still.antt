@@ -25,10 +25,13 @@ pub record Still (W : Kinds) (h k : Held) : Type 0 where
   pub modules : k.store.instances ≡ h.store.instances
   pub ends : (K : ℕ → EndKind) → W ≡ Some K → EndsKept K h → EndsKept K k
 
--- So it is of what a part gives. Behind a trap, and where fuel is wanting, no run goes on.
+-- So it is of what a part gives. Behind a trap no run goes on, and ends are kept, where they are asked for; where fuel is wanting nothing is said.
+abbrev pub EndsAsked : Kinds → Held → Held → Type 0
+EndsAsked W h k = (K : ℕ → EndKind) → W ≡ Some K → EndsKept K h → EndsKept K k
+
 abbrev pub StillBy : {A : Type 0} → Kinds → Held → Done A → Type 0
 StillBy W h (Gives x k) = Still W h k
-StillBy W h (Traps why k) = Unit {0}
+StillBy W h (Traps why k) = EndsAsked W h k
 StillBy W h (Spent k) = Unit {0}
 StillBy W h Stuck = Unit {0}
 
@@ -42,6 +45,12 @@ still_all W h k store instances memories streams futures = record {
       (subst (λ (all : List Channel). EndsAre K h.instances h.streams all) (sym futures) kept));
 }
 
+pub ends_same : (W : Kinds) (h : Held) → EndsAsked W h h
+ends_same W h K is kept = kept
+
+pub bare_ends : (h k : Held) → EndsAsked None h k
+bare_ends h k K is kept = absurd (cc)
+
 pub still_same : (W : Kinds) (h : Held) → Still W h h
 still_same W h = record { memories = refl; modules = refl; ends = λ K is kept. kept }
 
@@ -54,13 +63,13 @@ still_further W h k l p q = record {
 
 pub still_behind : {A : Type 0} (W : Kinds) (h k : Held) (d : Done A) → Still W h k → StillBy W k d → StillBy W h d
 still_behind W h k (Gives x l) p q = still_further W h k l p q
-still_behind W h k (Traps why l) p q = tt
+still_behind W h k (Traps why l) p q = λ K is kept. q K is (p.ends K is kept)
 still_behind W h k (Spent l) p q = tt
 still_behind W h k Stuck p q = tt
 
 pub still_after : {A B : Type 0} (W : Kinds) (h : Held) (d : Done A) (f : A → Held → Done B) → StillBy W h d → ((x : A) (k : Held) → StillBy W k (f x k)) → StillBy W h (after d f)
 still_after W h (Gives x k) f p q = still_behind W h k (f x k) p (q x k)
-still_after W h (Traps why k) f p q = tt
+still_after W h (Traps why k) f p q = p
 still_after W h (Spent k) f p q = tt
 still_after W h Stuck f p q = tt
 

@@ -48,9 +48,9 @@ subtask_asked_still W t callee canon index h =
 pub subtask_cancel_still : (W : Kinds) → (t : ℕ) (at : ℕ) (canon : ℕ) (words : List ℕ) (h : Held) → StillBy W h (subtask_cancel t at canon words h)
 unfolding subtask_cancel
 subtask_cancel_still W t at canon words h =
-    still_given W h (word_in words 0) (λ index. after (subtask_found at index h) (λ callee k. after (delivered callee k) (λ is_delivered l. if is_delivered then Traps trap.Delivered l else after (unasked callee l) (λ is_unasked m. if not is_unasked then Traps trap.Asked m else subtask_asked t callee canon index m)))) (λ index is. still_after W h (subtask_found at index h) (λ callee k. after (delivered callee k) (λ is_delivered l. if is_delivered then Traps trap.Delivered l else after (unasked callee l) (λ is_unasked m. if not is_unasked then Traps trap.Asked m else subtask_asked t callee canon index m))) (subtask_found_still W at index h) (λ callee k. still_after W k (delivered callee k) (λ is_delivered l. if is_delivered then Traps trap.Delivered l else after (unasked callee l) (λ is_unasked m. if not is_unasked then Traps trap.Asked m else subtask_asked t callee canon index m)) (delivered_still W callee k) (λ is_delivered l. still_if W l (is_delivered) (Traps trap.Delivered l) (after (unasked callee l) (λ is_unasked m. if not is_unasked then Traps trap.Asked m else subtask_asked t callee canon index m)) tt (still_after W l (unasked callee l) (λ is_unasked m. if not is_unasked then Traps trap.Asked m else subtask_asked t callee canon index m) (unasked_still W callee l) (λ is_unasked m. still_if W m (not is_unasked) (Traps trap.Asked m) (subtask_asked t callee canon index m) tt (subtask_asked_still W t callee canon index m))))))
+    still_given W h (word_in words 0) (λ index. after (subtask_found at index h) (λ callee k. after (delivered callee k) (λ is_delivered l. if is_delivered then Traps trap.Delivered l else after (unasked callee l) (λ is_unasked m. if not is_unasked then Traps trap.Asked m else subtask_asked t callee canon index m)))) (λ index is. still_after W h (subtask_found at index h) (λ callee k. after (delivered callee k) (λ is_delivered l. if is_delivered then Traps trap.Delivered l else after (unasked callee l) (λ is_unasked m. if not is_unasked then Traps trap.Asked m else subtask_asked t callee canon index m))) (subtask_found_still W at index h) (λ callee k. still_after W k (delivered callee k) (λ is_delivered l. if is_delivered then Traps trap.Delivered l else after (unasked callee l) (λ is_unasked m. if not is_unasked then Traps trap.Asked m else subtask_asked t callee canon index m)) (delivered_still W callee k) (λ is_delivered l. still_if W l (is_delivered) (Traps trap.Delivered l) (after (unasked callee l) (λ is_unasked m. if not is_unasked then Traps trap.Asked m else subtask_asked t callee canon index m)) (λ K asked kept. kept) (still_after W l (unasked callee l) (λ is_unasked m. if not is_unasked then Traps trap.Asked m else subtask_asked t callee canon index m) (unasked_still W callee l) (λ is_unasked m. still_if W m (not is_unasked) (Traps trap.Asked m) (subtask_asked t callee canon index m) (λ K asked kept. kept) (subtask_asked_still W t callee canon index m))))))
 
 pub subtask_drop_still : (W : Kinds) → (t : ℕ) (at : ℕ) (words : List ℕ) (h : Held) → StillBy W h (subtask_drop t at words h)
 unfolding subtask_drop
 subtask_drop_still W t at words h =
-    still_given W h (word_in words 0) (λ index. after (subtask_found at index h) (λ callee k. after (delivered callee k) (λ is_delivered l. if not is_delivered then Traps trap.NotDelivered l else after (set_left at index l) (λ done m. after (entry_removed at index m) (λ done n. got t [] n))))) (λ index is. still_after W h (subtask_found at index h) (λ callee k. after (delivered callee k) (λ is_delivered l. if not is_delivered then Traps trap.NotDelivered l else after (set_left at index l) (λ done m. after (entry_removed at index m) (λ done n. got t [] n)))) (subtask_found_still W at index h) (λ callee k. still_after W k (delivered callee k) (λ is_delivered l. if not is_delivered then Traps trap.NotDelivered l else after (set_left at index l) (λ done m. after (entry_removed at index m) (λ done n. got t [] n))) (delivered_still W callee k) (λ is_delivered l. still_if W l (not is_delivered) (Traps trap.NotDelivered l) (after (set_left at index l) (λ done m. after (entry_removed at index m) (λ done n. got t [] n))) tt (still_after W l (set_left at index l) (λ done m. after (entry_removed at index m) (λ done n. got t [] n)) (set_left_still W at index l) (λ done m. still_after W m (entry_removed at index m) (λ done n. got t [] n) (entry_removed_still W at index m) (λ done n. got_still W t [] n))))))
+    still_given W h (word_in words 0) (λ index. after (subtask_found at index h) (λ callee k. after (delivered callee k) (λ is_delivered l. if not is_delivered then Traps trap.NotDelivered l else after (set_left at index l) (λ done m. after (entry_removed at index m) (λ done n. got t [] n))))) (λ index is. still_after W h (subtask_found at index h) (λ callee k. after (delivered callee k) (λ is_delivered l. if not is_delivered then Traps trap.NotDelivered l else after (set_left at index l) (λ done m. after (entry_removed at index m) (λ done n. got t [] n)))) (subtask_found_still W at index h) (λ callee k. still_after W k (delivered callee k) (λ is_delivered l. if not is_delivered then Traps trap.NotDelivered l else after (set_left at index l) (λ done m. after (entry_removed at index m) (λ done n. got t [] n))) (delivered_still W callee k) (λ is_delivered l. still_if W l (not is_delivered) (Traps trap.NotDelivered l) (after (set_left at index l) (λ done m. after (entry_removed at index m) (λ done n. got t [] n))) (λ K asked kept. kept) (still_after W l (set_left at index l) (λ done m. after (entry_removed at index m) (λ done n. got t [] n)) (set_left_still W at index l) (λ done m. still_after W m (entry_removed at index m) (λ done n. got t [] n) (entry_removed_still W at index m) (λ done n. got_still W t [] n))))))
