@@ -7,7 +7,6 @@ use Rattle.link_spec.specs.Laws.{GraphsAreImported, LiftsAreThere, GraphsAreMade
 use Rattle.link_spec.proofs.Holding.{all_weaker}
 use Rattle.graph_laws.specs.Laws.{ReadModulesAreTyped}
 use Rattle.async_graph_laws.specs.Laws.{LinkedGraphsAreTyped, ReadGraphsAreTyped, LinkedGraphsAreUsed}
-use Rattle.async_graph_laws.proofs.DefinitionsApart.{plan_same}
 use Rattle.graph_laws.proofs.GraphsApart.{plans_make_in_order}
 
 abbrev IsFitCore : CoreMake → Type 0
@@ -20,7 +19,7 @@ linked_graphs_are_typed imported stand c g fit linked =
       valid = all_weaker IsFitCore (λ (core : CoreMake). Typed core.of_module) (λ core s. s.0) g.cores each;
       in_range = all_weaker IsFitCore (λ (core : CoreMake). InRange core.of_module) (λ core s. s.1) g.cores each;
       imported = imported c g linked;
-      planned = plan_same 0 g.plan g.cores (plans_make_in_order c g linked);
+      planned = plans_make_in_order c g linked;
     }
 
 pub read_graphs_are_typed : LinkedGraphsAreTyped → ReadModulesAreTyped → ReadGraphsAreTyped

@@ -5,4 +5,5 @@ mod Lending
 mod PlansBegin
 mod ScriptsFor
 mod ReadRuns
+mod ReadFits
 mod ReadWorlds

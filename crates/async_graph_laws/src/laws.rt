@@ -2,6 +2,7 @@
 
 ghost use Rattle.async_graph_laws.specs.Laws.{LinkedDefinitionsAreApart, LinkedGraphsAreTyped, ReadGraphsAreTyped, LinkedGraphsAreUsed, LinkedGraphsTellEnds, LinkedGraphsPassNoBorrow, CallsAreForGraphs, ReadScriptsAreForGraphs};
 ghost use Rattle.async_graph_laws.specs.Plans.{LinkedInstancesBegin, LinkedMakesFollow};
+ghost use Rattle.async_graph_laws.specs.ReadFits.{ReadRunsFit};
 ghost use Rattle.async_graph_laws.specs.ReadRuns.{ReadRunsAreRunnable, ReadRunsHaveOneNext, NoReadRunIsStuck, ReadRunsAreOne};
 ghost use Rattle.async_graph_laws.specs.ReadWorlds.{ReadWorldsAreKnown};
 
@@ -79,6 +80,17 @@ pub fn read_runs_are_runnable()
     read_types_are_labelled();
     read_scripts_pass_in_range();
     scripts_pass_typed();
+}
+
+/// They also are what laws of runs of the code ask of a graph and a script: besides, the plan of the graph begins the instances that are named, each before
+/// its core instances are made, its results and elements hold no borrow, and the script passes no end of a stream or a future.
+pub fn read_runs_fit()
+    ensures { ReadRunsFit }
+{
+    read_runs_are_runnable();
+    linked_plans_begin();
+    linked_graphs_pass_no_borrow();
+    read_scripts_pass_no_handles();
 }
 
 /// Of each component file that is read and linked, and each script that is read for it: in each world that the machine reaches a step or the end of

@@ -25,12 +25,10 @@ use Rattle.link_spec.specs.Linked.{exports_at, Links, root_begun, callables, exp
 use Rattle.link_spec.proofs.Holding.{all_weaker, all_mapped, all_flat, all_at, holds_at, if_weaker, if_mapped, if_found}
 use Rattle.comp_reader.specs.Binary.{IsComponent}
 use Rattle.lowering_laws.specs.Values.{AreBytes}
-use Rattle.world.specs.Synchronous.{called_type}
-use Rattle.graph_laws.specs.Laws.{ReadTypesAreCounted, ReadTypesAreLabelled}
+use Rattle.graph_laws.specs.Laws.{ReadTypesAreLabelled}
 use Rattle.graph_laws.proofs.ComponentTypes.{types_have}
-use Rattle.graph_laws.specs.Counted.{is_labelled, HasLabelledTypes}
+use Rattle.graph_laws.specs.Counted.{called_type, is_labelled, HasLabelledTypes}
 use Rattle.graph_laws.proofs.Marked.{is_marked, HasMarkedTypes, HasMarkedFuncs, marked_labelled}
-use Rattle.graph_laws.proofs.Unended.{closed_up}
 use Rattle.graph_laws.proofs.TypesStand as stands
 use Rattle.graph_laws.proofs.TypesStand.{shape_has, behind_have}
 use Rattle.graph_laws.proofs.CountedTypes.{IsCounted, IsExternCounted, AreCounted, IsKnownCounted, of_func_counted, meant_counted}
@@ -130,6 +128,3 @@ read_types_are_labelled bytes c g are read linked =
       exports = all_weaker (λ (e : exported_func.Export). HasMarkedTypes true false e.func_type) (λ (e : exported_func.Export). HasLabelledTypes e.func_type) (λ e k. labelled_types e.func_type k) g.exports h.exports;
       canons = all_weaker (λ (f : CanonFunc). HasMarkedTypes true false (called_type f)) (λ (f : CanonFunc). HasLabelledTypes (called_type f)) (λ f k. labelled_types (called_type f) k) g.canons h.canons;
     }
-
-pub read_types_are_counted : ReadTypesAreCounted
-read_types_are_counted bytes c g are read linked none = closed_up g (marked_read bytes c g are read linked) none

@@ -1,29 +1,17 @@
--- Linked graphs are apart, and their plans make each core instance in order; and where the modules of a component are sound, so is its
--- graph, if all its functions are synchronous.
+-- In linked graphs each component instance owns what it uses, and their plans make each core instance in order.
 use Rattle.std.proofs.Common.{◌≡◌, ℕ, List, [], ◌++◌, length, map, refl, sym, subst, Option, Some, None}
 use Rattle.std.specs.List.{slice_get, AllByRecursion}
 use Rattle.ca_base.specs.declared.placed.Placed.{Placed}
-use Rattle.wasm_typing.specs.Modules.{Typed}
-use Rattle.wasm_store.specs.Instantiation.{InRange}
 use Rattle.comp_tree.specs.declared.items.Item.{Item, out-Item}
 use Rattle.comp_tree.specs.declared.items.Component.{Component}
-use Rattle.comp_graph.specs.declared.graph.Options.{Options}
-use Rattle.comp_graph.specs.declared.graph.Lift.{Lift}
-use Rattle.comp_graph.specs.declared.graph.CanonFunc.{CanonFunc}
-use Rattle.comp_graph.specs.declared.graph.CanonFunc.TheVariants as canon_func
 use Rattle.comp_graph.specs.Graph.{CoreMake, Graph}
-use Rattle.comp_graph.proofs.RunningTold.{runs_told}
 use Rattle.link_spec.specs.Definitions.{Closure, AFunc, AnInstance, Exports, EmptyInstance, WithExport}
 use Rattle.link_spec.specs.Spaces.{Spaces, Linking, new_spaces, with_definition}
-use Rattle.link_spec.specs.Standing.{StandsIn}
 use Rattle.link_spec.specs.Linked.{IsLinked, Begins, begun, exports_or, exports_at, with_instance, Links, leads_by_making, leads_by_instance, no_items, item_links, root_begun, Callable, funcs_behind, callables, lift_of, graph_of}
-use Rattle.link_spec.specs.Laws.{GraphsAreImported, LiftsAreThere, GraphsAreMade, ModulesStand}
-use Rattle.link_spec.proofs.Holding.{all_push, all_both, all_mapped, all_weaker}
-use Rattle.lowering_laws.specs.StoreBytes.{HasBytes}
-use Rattle.world.specs.Sound.{Makes}
-use Rattle.world.specs.Owners.{AreOptionsOf, IsLiftApart, IsCanonApart}
-use Rattle.graph_laws.specs.Laws.{IsSoundModule, HasSoundModules, LinkedGraphsAreSound, PlansMakeInOrder, LinkedGraphsAreApart}
-use Rattle.graph_laws.proofs.Owning.{made_by, KeepsOwners, OwnsOptions, OwnsLift, OwnsCanon, IsOwnGraph, IsFuncApart, AreDefinedApart, AreSpacesApart, IsLinkingApart, IsReachedApart}
+use Rattle.link_spec.proofs.Holding.{all_push, all_both, all_mapped}
+use Rattle.abi_machine.specs.sound.Owners.{Makes}
+use Rattle.graph_laws.specs.Laws.{PlansMakeInOrder}
+use Rattle.graph_laws.proofs.Owning.{made_by, KeepsOwners, OwnsLift, IsOwnGraph, IsFuncApart, AreDefinedApart, AreSpacesApart, IsLinkingApart, IsReachedApart}
 use Rattle.graph_laws.proofs.Keeping.{kept_canons, kept_destructors, kept_lifts, kept_imports, kept_spaces, keeps_itself, keeps_through}
 use Rattle.graph_laws.proofs.Places.{at_push, begins_behind}
 use Rattle.graph_laws.proofs.SpacesApart.{with_defined_apart, new_apart, are_named_apart}
@@ -115,44 +103,5 @@ graph_own l h = record {
 pub linked_graphs_own : (c : Component) (g : Graph) → IsLinked c g → IsOwnGraph g
 linked_graphs_own c g (l, links, is) = subst IsOwnGraph (sym is) (graph_own l (linked_apart c l links))
 
--- Synchronous calls use less.
-module _ (g : Graph) where
-  less_options : (owner : ℕ) (options : Options) → OwnsOptions g owner options → AreOptionsOf g owner options
-  less_options owner options h = record { memory = h.memory; realloc = h.realloc; post_return = h.post_return }
-
-  less_lift : (lift : Lift) → OwnsLift g lift → IsLiftApart g lift
-  less_lift lift h = (h.0, less_options lift.instance lift.options h.1)
-
-  less_canon : (c : CanonFunc) → OwnsCanon g c → IsCanonApart g c
-  less_canon (canon_func.Lower l) h = (less_options l.instance l.options h.0, less_lift l.lift h.1)
-  less_canon (canon_func.Builtin b) h = tt
-
-pub linked_graphs_are_apart : LinkedGraphsAreApart
-linked_graphs_are_apart c g linked =
-    let own : IsOwnGraph g = linked_graphs_own c g linked in
-    record {
-      imports = own.imports;
-      lifts = all_weaker (OwnsLift g) (IsLiftApart g) (less_lift g) g.lifts own.lifts;
-      lowers = all_weaker (OwnsCanon g) (IsCanonApart g) (less_canon g) g.canons own.canons;
-    }
-
 pub plans_make_in_order : PlansMakeInOrder
 plans_make_in_order c g (l, links, is) = subst (λ (g : Graph). Makes 0 g.plan g.cores) (sym is) (linked_apart c l links).planned
-
--- Each core instance is of a sound module.
-all_sound : (c : Component) (cores : List CoreMake) → HasSoundModules c → AllByRecursion (λ (core : CoreMake). StandsIn core.of_module c.items) cores → AllByRecursion (λ (core : CoreMake). IsSoundModule core.of_module) cores
-all_sound c cores has stand = all_weaker (λ (core : CoreMake). StandsIn core.of_module c.items) (λ (core : CoreMake). IsSoundModule core.of_module) (λ core s. has core.of_module s) cores stand
-
-pub linked_graphs_are_sound : GraphsAreImported → LiftsAreThere → GraphsAreMade → ModulesStand → LinkedGraphsAreSound
-linked_graphs_are_sound imported there made stand c g has linked runs =
-    let sound = all_sound c g.cores has (stand c g linked) in
-    record {
-      valid = all_weaker (λ (core : CoreMake). IsSoundModule core.of_module) (λ (core : CoreMake). Typed core.of_module) (λ core s. s.typed) g.cores sound;
-      in_range = all_weaker (λ (core : CoreMake). IsSoundModule core.of_module) (λ (core : CoreMake). InRange core.of_module) (λ core s. s.in_range) g.cores sound;
-      bytes = all_weaker (λ (core : CoreMake). IsSoundModule core.of_module) (λ (core : CoreMake). HasBytes core.of_module) (λ core s. s.bytes) g.cores sound;
-      imported = imported c g linked;
-      lifts = there c g linked;
-      made = made c g linked;
-      planned = plans_make_in_order c g linked;
-      sync = (runs_told g).0 runs;
-    }

@@ -46,8 +46,8 @@ use Rattle.link_spec.specs.Builtins.{builtin_meaning}
 use Rattle.link_spec.specs.Brought.{asked_of}
 use Rattle.link_spec.specs.Items.{argument_named, import_found, FindsItem, IsInline, core_made, core_instance_makes, instance_makes, alias_makes, lifted_with, lift_makes, with_canon, lowered_with, lower_makes, builtin_makes, IsImported, import_makes, said, IsExported, export_makes, type_meaning, defined_makes, makes_case}
 use Rattle.link_spec.proofs.Holding.{all_push, all_mapped, all_flat, all_at, all_second, holds_at, if_mapped, if_found, if_each, if_cond, last_there}
-use Rattle.world.specs.Reading.{inst_of_canon}
-use Rattle.world.specs.Owners.{owner_of_core, owner_of_canon, owner_of_func, owner_of_extern}
+use Rattle.abi_machine.specs.Canons.{inst_of_canon}
+use Rattle.abi_machine.specs.sound.Owners.{owner_of_core, owner_of_canon, owner_of_func, owner_of_extern}
 use Rattle.graph_laws.proofs.Owning.{made_by, KeepsOwners, OwnsCanon, OwnsDestructor, IsItemOf, AreExportsOf, IsFuncApart, IsDefinedApart, AreDefinedApart, AreSpacesApart, AreImportsOf, IsLinkingApart, IsReachedApart}
 use Rattle.graph_laws.proofs.Keeping.{kept_mapped, kept_canons, kept_destructors, kept_imports, kept_spaces, keeps_itself}
 use Rattle.graph_laws.proofs.Places.{at_set, makes_behind}

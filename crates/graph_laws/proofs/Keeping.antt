@@ -21,7 +21,7 @@ use Rattle.link_spec.specs.Definitions.{CoreItem, extern_of, CoreExport, Lifted,
 use Rattle.link_spec.specs.Spaces.{Spaces}
 use Rattle.link_spec.proofs.Holding.{all_weaker, if_weaker, kept_at}
 use Rattle.link_spec.proofs.Lists.{map_some}
-use Rattle.world.specs.Owners.{owner_of_core, owner_of_func, owner_of_extern}
+use Rattle.abi_machine.specs.sound.Owners.{owner_of_core, owner_of_func, owner_of_extern}
 use Rattle.graph_laws.proofs.Owning.{KeepsOwners, OwnsOptions, OwnsLift, OwnsEnd, OwnsKind, OwnsCanon, IsItemOf, AreExportsOf, IsFuncApart, IsDefinedApart, AreDefinedApart, AreSpacesApart, AreImportsOf, OwnsDestructor}
 
 -- what is made of an item of a list, when others come behind

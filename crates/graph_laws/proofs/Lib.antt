@@ -13,8 +13,6 @@ pub mod SoundModules
 pub mod Samples
 mod Counting
 mod Marked
-mod Unended
-pub mod SoundCalls
 mod ScriptsInRange
 mod TypesStand
 mod CountedMoved
@@ -25,4 +23,3 @@ mod LinkingsHold
 mod CountedGraphs
 mod TypesRead
 mod ComponentTypes
-mod PlainTypes

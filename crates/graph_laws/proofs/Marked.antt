@@ -15,10 +15,10 @@ use Rattle.syntax_trees.specs.declared.exports.Export.{Export}
 use Rattle.syntax_trees.proofs.Folds.{held, fold_case, fold_field}
 use Rattle.comp_graph.specs.declared.graph.CanonFunc.{CanonFunc}
 use Rattle.comp_graph.specs.Graph.{Graph}
-use Rattle.world.specs.Synchronous.{called_type}
+use Rattle.graph_laws.specs.Counted.{called_type}
 use Rattle.value_lift.proofs.Layers.{by_layer}
 use Rattle.value_reader.specs.Writable.{all_true, true_if_some}
-use Rattle.graph_laws.specs.Counted.{counted_step, counted_case, counted_field, is_counted, labelled_step, is_labelled}
+use Rattle.graph_laws.specs.Counted.{counted_case, counted_field, labelled_step, is_labelled}
 
 abbrev pub Layer : Type 0
 Layer = F.ValType-F ValType Case Field
@@ -60,35 +60,6 @@ pub marked_is : (ends many : Bool) (t : ValType) → is_marked ends many t ≡ m
 marked_is ends many t =
     by_layer Bool Bool Bool (marked_step ends many) counted_case counted_field (λ (c : Case). true_if_some (held (is_marked ends many) c.payload)) (λ (f : Field). is_marked ends many f.val_type)
     (fold_case Bool Bool Bool (marked_step ends many) counted_case counted_field) (fold_field Bool Bool Bool (marked_step ends many) counted_case counted_field) t
-
--- Without ends, and with labels that are counted.
-step_same : (y : F.ValType-F Bool Bool Bool) → marked_step false false y ≡ counted_step y
-step_same F.Bool = refl
-step_same F.S8 = refl
-step_same F.U8 = refl
-step_same F.S16 = refl
-step_same F.U16 = refl
-step_same F.S32 = refl
-step_same F.U32 = refl
-step_same F.S64 = refl
-step_same F.U64 = refl
-step_same F.Char = refl
-step_same F.String = refl
-step_same (F.Record fields) = refl
-step_same (F.Variant cases) = refl
-step_same (F.List element) = refl
-step_same (F.Tuple parts) = refl
-step_same (F.Flags labels) = refl
-step_same (F.Enum labels) = refl
-step_same (F.Option part) = refl
-step_same (F.Result ok err) = refl
-step_same (F.Own resource) = refl
-step_same (F.Borrow resource) = refl
-step_same (F.Stream element) = refl
-step_same (F.Future element) = refl
-
-pub marked_same : (t : ValType) → is_marked false false t ≡ is_counted t
-marked_same t = ap (λ (step : F.ValType-F Bool Bool Bool → Bool). fold-ValType Bool Bool Bool step counted_case counted_field t) (fun_ext step_same)
 
 -- With ends, and with labels that are counted.
 labelled_same : (y : F.ValType-F Bool Bool Bool) → marked_step true false y ≡ labelled_step y

@@ -21,7 +21,7 @@ use Rattle.link_spec.specs.Canons.{memory_index, realloc_index, post_return_inde
 use Rattle.link_spec.specs.Builtins.{elements_at, end_op_of, builtin_meaning}
 use Rattle.link_spec.specs.ValueTypes.{close_passed}
 use Rattle.link_spec.proofs.Holding.{all_at, holds_at, if_weaker, if_mapped, if_found, if_each}
-use Rattle.world.specs.Owners.{owner_of_core, owner_of_func}
+use Rattle.abi_machine.specs.sound.Owners.{owner_of_core, owner_of_func}
 use Rattle.graph_laws.proofs.Owning.{OwnsOptions, OwnsEnd, OwnsKind, IsItemOf, AreSpacesApart}
 use Rattle.graph_laws.proofs.SpacesApart.{if_always}
 

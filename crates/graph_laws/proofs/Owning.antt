@@ -15,8 +15,8 @@ use Rattle.comp_graph.specs.declared.graph.CanonFunc.TheVariants as canon_func
 use Rattle.comp_graph.specs.Graph.{CoreMake, Graph}
 use Rattle.link_spec.specs.Definitions.{CoreItem, extern_of, CoreExport, Lifted, Definition, AFunc, AType, AComponent, AnInstance, AModule, Exports, EmptyInstance, WithExport}
 use Rattle.link_spec.specs.Spaces.{Spaces, Linking}
-use Rattle.world.specs.Sound.{Makes}
-use Rattle.world.specs.Owners.{owner_of_core, owner_of_canon, owner_of_func, owner_of_extern}
+use Rattle.abi_machine.specs.sound.Owners.{Makes}
+use Rattle.abi_machine.specs.sound.Owners.{owner_of_core, owner_of_canon, owner_of_func, owner_of_extern}
 
 -- what a linking has made so far, as a graph
 abbrev pub made_by : Linking → Graph

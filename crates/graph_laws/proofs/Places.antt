@@ -4,7 +4,7 @@ use Rattle.std.specs.List.{slice_get}
 use Rattle.comp_graph.specs.declared.graph.Action.{Action}
 use Rattle.comp_graph.specs.declared.graph.Action.TheVariants.{Begin, Make}
 use Rattle.comp_graph.specs.Graph.{CoreMake}
-use Rattle.world.specs.Sound.{Makes}
+use Rattle.abi_machine.specs.sound.Owners.{Makes}
 
 some_same : {A : Type 0} (x y : A) → Some x ≡ Some y → x ≡ y
 some_same x y h = cc

@@ -1,4 +1,4 @@
--- The modules that stand in a component that is read of bytes are sound, and so is its graph.
+-- The modules that stand in a component that is read of bytes are sound.
 use Rattle.std.proofs.Common.{◌≡◌, ℕ, List, [], ◌∷◌, Option, Some, None, refl, sym, subst}
 use Rattle.std.specs.List.{AllByRecursion}
 use Rattle.ca_base.specs.Span.{Span, window}
@@ -20,7 +20,7 @@ use Rattle.wasm_store.specs.Instantiation.{InRange}
 use Rattle.part_reader.specs.declared.fault.ComponentWhy.{ComponentWhy}
 use Rattle.comp_reader.specs.Binary.{validated, module_file, core_module}
 use Rattle.lowering_laws.specs.StoreBytes.{HasBytes}
-use Rattle.graph_laws.specs.Laws.{LinkedGraphsAreSound, ReadModulesAreTyped, ReadDataAreBytes, ReadModulesAreSound, ReadGraphsAreSound}
+use Rattle.graph_laws.specs.Laws.{ReadModulesAreTyped, ReadDataAreBytes, ReadModulesAreSound}
 use Rattle.graph_laws.proofs.Bytes.{IsByte, take_bytes, matches_bytes, GivesOn}
 use Rattle.graph_laws.proofs.DataBytes.{module_has_bytes}
 use Rattle.graph_laws.proofs.ModulesRead.{ItemHas, module_has, component_has}
@@ -78,11 +78,8 @@ bytes_on s x t bytes m =
 pub read_data_are_bytes : ReadDataAreBytes
 read_data_are_bytes bytes c m h read stands = component_has HasBytes IsByte bytes_on bytes c h read m stands
 
--- So they are sound, and so is the graph.
+-- So they are sound.
 pub read_modules_are_sound : ReadModulesAreSound
 read_modules_are_sound bytes c h read m stands =
     let fit = read_modules_are_typed bytes c m read stands in
     record { typed = fit.0; in_range = fit.1; bytes = read_data_are_bytes bytes c m h read stands }
-
-pub read_graphs_are_sound : LinkedGraphsAreSound → ReadGraphsAreSound
-read_graphs_are_sound sound bytes c g h read linked runs = sound c g (read_modules_are_sound bytes c h read) linked runs

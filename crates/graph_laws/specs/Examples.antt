@@ -30,8 +30,6 @@ use Rattle.comp_graph.specs.declared.graph.CanonFunc.TheVariants as canon_func
 use Rattle.comp_graph.specs.Graph.{Graph, no_options}
 use Rattle.link_spec.specs.Linked.{IsLinked}
 use Rattle.link_spec.specs.Examples.{root, inside, of_one, instantiate}
-use Rattle.world.specs.Sound.{IsSoundGraph}
-use Rattle.world.specs.Owners.{IsApart}
 use Rattle.graph_laws.specs.Laws.{HasSoundModules}
 
 -- A core module that imports a function, which gives an i32, and exports one that calls it, and one that takes what it gives. Its
@@ -135,9 +133,3 @@ IsLinkedToBoth = IsLinked (root parent) both
 
 abbrev pub ModulesAreSound : Type 0
 ModulesAreSound = HasSoundModules (root parent)
-
-abbrev pub BothIsSound : Type 0
-BothIsSound = IsSoundGraph both
-
-abbrev pub BothIsApart : Type 0
-BothIsApart = IsApart both

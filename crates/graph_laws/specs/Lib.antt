@@ -1,4 +1,3 @@
 pub mod Counted
-pub mod Scripts
 pub mod Laws
 pub mod Examples

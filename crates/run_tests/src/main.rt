@@ -1,7 +1,7 @@
 //! Tests of runs of scripts over components, and of what `check` and `show` tell: a program that goes through tables of cases.
 //!
 //! The file `stdin` names the tables, each behind its kind, and the file `stdout` has how many cases are in each. What is wanted
-//! is derived from the definitions by hand.
+//! is derived from the definitions by hand; from `meetings` on by a small model of their rules that shares nothing with this code.
 //!
 //! In the tables of the kind `case` a case is a paragraph: a line that says what it shows, lines of a component, a line of a
 //! command, lines of a script, a line `is`, and the answer. It is answered over the same readers, the same linking and the same
@@ -35,6 +35,15 @@
 //! - `turns`: fuel, choices, and which task enters or goes on
 //! - `lifted_builtins`: built-ins that are lifted, or are post-returns
 //! - `pipes`: two component instances, of which one writes numbers to a stream and the other reads them, for few numbers
+//! - `meetings`, `offers`: a write and a read of a stream, in two instances, of each length, where either stands; and what
+//!   further calls do to a call that stands
+//! - `dropped_ends`, `waiting_ends`: ends that are dropped, and calls that are cancelled; calls without `async`
+//! - `one_instance`, `moved_ends`: both ends in one instance, for each kind of element; readable ends that move to another one
+//! - `third_elements`, `third_handles`: copies of three elements of each type, of which the third has a fault, and what they leave
+//! - `futures`: writes and reads of futures, their ends that are dropped, and calls that are cancelled
+//! - `cancelled_calls`, `cancelled_handles`, `cancelled_items`: callees that are cancelled in each state, by their callers, with
+//!   an end or a handle that is passed, and by the script
+//! - `fuel_units`: two runs, with each number of units up to what they need
 //!
 //! In the table `lines` of the kind `line` a paragraph is a line that says what is refused, `component`, `link` or `script`, and
 //! lines of a place and a reason, each with its line of a refusal behind ` = `. Behind a reason stands its argument: a byte as a

@@ -1,4 +1,5 @@
 pub mod Caused
+pub mod Coming
 pub mod Existing
 pub mod Found
 pub mod Held
@@ -6,7 +7,7 @@ pub mod OnePipe
 pub mod Reading
 pub mod Requests
 pub mod Rows
-pub mod RunsOn
+pub mod RunRows
 pub mod Sounds
-pub mod Synchronous
 pub mod Taken
+pub mod Traced

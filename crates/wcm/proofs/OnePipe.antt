@@ -1,6 +1,5 @@
--- A pipe has one answer: of its runs, for each program that runs once.
-use Rattle.std.proofs.Common.{◌≡◌, ℕ, List, refl, ap, sym, ◌∙◌, subst, Option, Some, None, Result, Ok, Err}
-use Rattle.std.specs.Option.{IfSome}
+-- A pipe has one answer.
+use Rattle.std.proofs.Common.{◌≡◌, ℕ, List, refl, ap, sym, ◌∙◌, subst, Result, Ok, Err}
 use Rattle.ca_base.specs.declared.refusal.Refusal.{Refusal}
 use Rattle.part_reader.specs.declared.fault.ComponentWhy.{ComponentWhy}
 use Rattle.comp_tree.specs.declared.items.Component.{Component}
@@ -11,16 +10,15 @@ use Rattle.link_spec.proofs.Following.{one_graph, one_refusal, linked_is_not_ref
 use Rattle.comp_graph.specs.Graph.{Graph}
 use Rattle.script_reader.specs.declared.fault.ScriptFault.{ScriptFault}
 use Rattle.script_reader.specs.Script.{Script, script}
-use Rattle.programs.specs.declared.program.Program.{Program}
 use Rattle.trace_labels.specs.declared.label.Label.{Label}
-use Rattle.world_parts.specs.Held.{Held}
-use Rattle.value_moves.specs.Passing.{Passes}
-use Rattle.machine_runs.specs.declared.ending.RunEnd.{RunEnd}
-use Rattle.machine_runs.specs.Worlds.{first_point, IsRun}
+use Rattle.abi_machine.specs.declared.run_end.RunEnd.{RunEnd}
+use Rattle.abi_machine.specs.World.{World}
+use Rattle.abi_machine.specs.Run.{Runs}
+use Rattle.abi_machine.specs.sound.Unique.{OneRun}
 use Rattle.wcm.specs.declared.answer.Answer.{Answer}
 use Rattle.wcm.specs.Answers.{refused_answer, link_refused_answer, script_refused_answer}
 use Rattle.wcm.specs.Piped.{PipeAnswers, pipe_answer, pipe_bytes, pipe_script, pipe_refused, pipe_not_linked, pipe_script_refused, piped}
-use Rattle.wcm.specs.Laws.{pipe_program, IsOneProgram, RunsOnce, OnePipe}
+use Rattle.wcm.specs.Laws.{OnePipe}
 use Rattle.wcm.proofs.Found.{matches_once, refuses_once, not_refused}
 
 -- what some bytes come to: a refusal, a fault of linking, or a graph
@@ -55,67 +53,59 @@ one_outcome bytes (Linked g) (Unlinked f) h k =
 one_outcome bytes (Linked g) (Linked e) h k =
     ap (λ (g : Graph). Linked g) (one_graph h.0 g e h.2 (subst (λ (c : Component). IsLinked c e) (one_component bytes k.0 h.0 k.1 h.1) k.2))
 
--- what is answered for it, by this program where a run is made
-record RunsSo (seed : ℕ) (g : Graph) (s : Script) (program : Option Program) (a : Answer) : Type 0 where
-  p : Program
-  is_program : program ≡ Some p
-  lines : List Label
-  last : Held
+-- what is answered for it
+record RunsSo (seed : ℕ) (g : Graph) (s : Script) (a : Answer) : Type 0 where
+  labels : List Label
+  last : World
   end : RunEnd
-  goes : IsRun Passes p (first_point g s) end lines last
-  answer : a ≡ pipe_answer seed lines end
+  runs : Runs g s labels last end
+  answer : a ≡ pipe_answer seed labels end
 
-abbrev BehindScript : ℕ → Graph → Option Program → Result Script ScriptFault → Answer → Type 0
-BehindScript seed g program (Ok s) a = RunsSo seed g s program a
-BehindScript seed g program (Err fault) a = a ≡ script_refused_answer fault
+abbrev BehindScript : ℕ → Graph → Result Script ScriptFault → Answer → Type 0
+BehindScript seed g (Ok s) a = RunsSo seed g s a
+BehindScript seed g (Err fault) a = a ≡ script_refused_answer fault
 
-abbrev Behind : ℕ → Outcome → Option Program → Answer → Type 0
-Behind seed (Unread refusal) program a = a ≡ refused_answer refusal
-Behind seed (Unlinked fault) program a = a ≡ link_refused_answer fault
-Behind seed (Linked g) program a = (said : Result Script ScriptFault) × (script g.exports pipe_script ≡ said) × BehindScript seed g program said a
+abbrev Behind : ℕ → Outcome → Answer → Type 0
+Behind seed (Unread refusal) a = a ≡ refused_answer refusal
+Behind seed (Unlinked fault) a = a ≡ link_refused_answer fault
+Behind seed (Linked g) a = (said : Result Script ScriptFault) × (script g.exports pipe_script ≡ said) × BehindScript seed g said a
 
-record ByPipe (seed count : ℕ) (program : Option Program) (a : Answer) : Type 0 where
+record ByPipe (seed count : ℕ) (a : Answer) : Type 0 where
   outcome : Outcome
   comes : Comes (pipe_bytes seed count) outcome
-  behind : Behind seed outcome program a
+  behind : Behind seed outcome a
 
-by_pipe : (seed count : ℕ) (a : Answer) (h : PipeAnswers seed count a) → ByPipe seed count (pipe_program seed count a h) a
+by_pipe : (seed count : ℕ) (a : Answer) → PipeAnswers seed count a → ByPipe seed count a
 by_pipe seed count a (pipe_refused refusal r) = record { outcome = Unread refusal; comes = r; behind = refl }
 by_pipe seed count a (pipe_not_linked c fault r f) = record { outcome = Unlinked fault; comes = (c, r, f); behind = refl }
 by_pipe seed count a (pipe_script_refused c g fault r l f) = record { outcome = Linked g; comes = (c, r, l); behind = (Err fault, f, refl) }
-by_pipe seed count a (piped c g calls p lines last end r l s is_of goes) =
+by_pipe seed count a (piped c g calls labels last end r l s runs) =
     record {
       outcome = Linked g;
       comes = (c, r, l);
-      behind = (Ok calls, s, record { p = p; is_program = refl; lines = lines; last = last; end = end; goes = goes; answer = refl });
+      behind = (Ok calls, s, record { labels = labels; last = last; end = end; runs = runs; answer = refl });
     }
 
-one_run_so : (seed : ℕ) (g : Graph) (s : Script) (p q : Option Program) (a b : Answer) → IsOneProgram p q → IfSome p RunsOnce → RunsSo seed g s p a → RunsSo seed g s q b → b ≡ a
-one_run_so seed g s p q a b same many x y =
-    let left : IsOneProgram (Some x.p) q = subst (λ (o : Option Program). IsOneProgram o q) x.is_program same in
-    let both : x.p ≡ y.p = subst (λ (o : Option Program). IsOneProgram (Some x.p) o) y.is_program left in
-    let once : RunsOnce x.p = subst (λ (o : Option Program). IfSome o RunsOnce) x.is_program many in
-    let goes : IsRun Passes x.p (first_point g s) y.end y.lines y.last = subst (λ (r : Program). IsRun Passes r (first_point g s) y.end y.lines y.last) (sym both) y.goes in
-    let one = once (first_point g s) x.end y.end x.lines y.lines x.last y.last x.goes goes in
-    y.answer ∙ (ap (λ (lines : List Label). pipe_answer seed lines y.end) (sym one.1) ∙ (ap (λ (end : RunEnd). pipe_answer seed x.lines end) (sym one.0) ∙ sym x.answer))
+module _ (one_run : OneRun) where
+  one_run_so : (seed : ℕ) (g : Graph) (s : Script) (a b : Answer) → RunsSo seed g s a → RunsSo seed g s b → b ≡ a
+  one_run_so seed g s a b x y =
+      let one = one_run g s y.labels x.labels y.last x.last y.end x.end y.runs x.runs in
+      y.answer ∙ (ap (λ (labels : List Label). pipe_answer seed labels y.end) one.0 ∙ (ap (λ (end : RunEnd). pipe_answer seed x.labels end) one.2 ∙ sym x.answer))
 
-one_behind_script : (seed : ℕ) (g : Graph) (p q : Option Program) (said : Result Script ScriptFault) (a b : Answer) → IsOneProgram p q → IfSome p RunsOnce
-    → BehindScript seed g p said a → BehindScript seed g q said b → b ≡ a
-one_behind_script seed g p q (Ok s) a b same many h k = one_run_so seed g s p q a b same many h k
-one_behind_script seed g p q (Err fault) a b same many h k = k ∙ sym h
+  one_behind_script : (seed : ℕ) (g : Graph) (said : Result Script ScriptFault) (a b : Answer) → BehindScript seed g said a → BehindScript seed g said b → b ≡ a
+  one_behind_script seed g (Ok s) a b h k = one_run_so seed g s a b h k
+  one_behind_script seed g (Err fault) a b h k = k ∙ sym h
 
-one_behind : (seed : ℕ) (outcome : Outcome) (p q : Option Program) (a b : Answer) → IsOneProgram p q → IfSome p RunsOnce → Behind seed outcome p a → Behind seed outcome q b → b ≡ a
-one_behind seed (Unread refusal) p q a b same many h k = k ∙ sym h
-one_behind seed (Unlinked fault) p q a b same many h k = k ∙ sym h
-one_behind seed (Linked g) p q a b same many h k =
-    let said : k.0 ≡ h.0 = sym k.1 ∙ h.1 in
-    one_behind_script seed g p q h.0 a b same many h.2 (subst (λ (r : Result Script ScriptFault). BehindScript seed g q r b) said k.2)
+  one_behind : (seed : ℕ) (outcome : Outcome) (a b : Answer) → Behind seed outcome a → Behind seed outcome b → b ≡ a
+  one_behind seed (Unread refusal) a b h k = k ∙ sym h
+  one_behind seed (Unlinked fault) a b h k = k ∙ sym h
+  one_behind seed (Linked g) a b h k =
+      let said : k.0 ≡ h.0 = sym k.1 ∙ h.1 in
+      one_behind_script seed g h.0 a b h.2 (subst (λ (r : Result Script ScriptFault). BehindScript seed g r b) said k.2)
 
-pub one_pipe : OnePipe
-one_pipe seed count a b h k same many =
-    let p = pipe_program seed count a h in
-    let q = pipe_program seed count b k in
-    let x = by_pipe seed count a h in
-    let y = by_pipe seed count b k in
-    let outcome : y.outcome ≡ x.outcome = one_outcome (pipe_bytes seed count) y.outcome x.outcome y.comes x.comes in
-    one_behind seed x.outcome p q a b same many x.behind (subst (λ (o : Outcome). Behind seed o q b) outcome y.behind)
+  pub one_pipe : OnePipe
+  one_pipe seed count a b h k =
+      let x = by_pipe seed count a h in
+      let y = by_pipe seed count b k in
+      let outcome : y.outcome ≡ x.outcome = one_outcome (pipe_bytes seed count) y.outcome x.outcome y.comes x.comes in
+      one_behind seed x.outcome a b x.behind (subst (λ (o : Outcome). Behind seed o b) outcome y.behind)

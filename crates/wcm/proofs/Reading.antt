@@ -1,6 +1,5 @@
 -- What files may hold that are too long, and the rows of answers that need no run.
 use Rattle.std.proofs.Common.{◌≡◌, ◌<◌, ℕ, Bool, List, length, Option, Some, Result, Ok, Err, IsErrOf, MatchResult, inl, refl, sym, subst}
-use Rattle.std.specs.Prelude.{IfOk}
 use Rattle.std.proofs.lemmas.Bool.{lt-ltb}
 use Rattle.std.specs.Option.{IfSome}
 use Rattle.ca_base.specs.declared.refusal.Refusal.{Refusal}
@@ -45,13 +44,6 @@ of_err P Q r e is h = subst (λ r. MatchResult r P Q) is h
 -- a file of which a component is read that is linked
 pub linked_file : (held : List ℕ → Option (List ℕ)) (name : List ℕ) (c : Component) (g : Graph) → IsFileRead held name c → IsLinked c g → IsFileLinked held name g
 linked_file held name c g f linked = record { bytes = f.bytes; component = c; holds = f.holds; read = f.read; linked = linked }
-
--- what is answered for a file whose component is linked
-pub linked_row : {E : Type 0} (held : List ℕ → Option (List ℕ)) (name : List ℕ) (dump : Bool) (c : Component) (g : Graph) (r : Result Answer E) → IsLinked c g
-    → IfOk r (λ a. (file : List ℕ) → IsFileLinked held file g → Answers held (Some (Run file name dump)) a)
-    → IfOk r (λ a. (file : List ℕ) → IsFileRead held file c → Answers held (Some (Run file name dump)) a)
-linked_row held name dump c g (Ok a) linked h = λ file read. h file (linked_file held file c g read linked)
-linked_row held name dump c g (Err e) linked h = tt
 
 -- The rows that need no run.
 pub refused_row : (held : List ℕ → Option (List ℕ)) (command : Command) (refusal : Refusal ComponentWhy) (a : Answer) → IsFileRefused held (component_file command) refusal → a ≡ refused_answer refusal → Answers held (Some command) a

@@ -26,11 +26,18 @@ use Rattle.command_words.specs.Words.{Request, OfFile, Pipe}
 use Rattle.wcm.specs.declared.answer.Answer.{Answer}
 use Rattle.wcm.specs.declared.status.Status.{Status}
 use Rattle.wcm.specs.declared.status.Status.TheVariants.{Done, Trap, Deadlock, Fuel}
-use Rattle.wcm.specs.Status.{IsAnswered, status_of_run}
+use Rattle.async_graph_laws.specs.ReadFits.{ReadRunsFit}
+use Rattle.abi_machine.specs.Run.{trace_of}
+use Rattle.abi_machine.specs.sound.Unique.{OneRun}
+use Rattle.run_laws.specs.Carried.{RunsAreOfMachine}
+use Rattle.run_laws.specs.Whole.{IsOfMachine}
+use Rattle.wcm.specs.Files.{IsOfComponent, IsOfText}
+use Rattle.wcm.specs.Status.{IsAnswered, status_of, status_of_run}
 use Rattle.machine_runs.specs.declared.ending.RunEnd.TheVariants as run
 use Rattle.wcm.specs.Answers.{usage_answer, no_command, refused_answer, link_refused_answer, script_refused_answer}
 use Rattle.wcm.specs.Piped.{Answered, IsAskedFor, PipeAnswers, pipe_answer, pipe_bytes, pipe_script, pipe_refused, pipe_not_linked, pipe_script_refused, piped, tally_text}
 use Rattle.wcm.proofs.Caused.{caused}
+use Rattle.wcm.proofs.RunRows.{fits_machine, own, same_status}
 
 -- An answer to what words ask for is one for the words, and so is the text where they ask for nothing.
 pub asked_for : (held : List ℕ → Option (List ℕ)) (words : Option Request) (request : Request) (a : Answer) → words ≡ Some request → Answered held (Some request) a → Answered held words a
@@ -40,10 +47,10 @@ pub asked_none : (held : List ℕ → Option (List ℕ)) (words : Option Request
 asked_none held words text e = subst (λ (o : Option Request). Answered held o (usage_answer text)) (sym e) (no_command text)
 
 -- The status of an answer is the one that is come to.
-pub asked_caused : (held : List ℕ → Option (List ℕ)) (words : Option Request) (a : Answer) (status : Status) → Answered held words a → status ≡ a.status → IsAskedFor held words status
-asked_caused held None a status h e = caused held None a status h e
-asked_caused held (Some (OfFile command)) a status h e = caused held (Some command) a status h e
-asked_caused held (Some (Pipe seed count)) a status h e = (a, h, sym e)
+pub asked_caused : OneRun → (held : List ℕ → Option (List ℕ)) (words : Option Request) (a : Answer) (status : Status) → Answered held words a → status ≡ a.status → IsAskedFor held words status
+asked_caused one_run held None a status h e = caused one_run held None a status h e
+asked_caused one_run held (Some (OfFile command)) a status h e = caused one_run held (Some command) a status h e
+asked_caused one_run held (Some (Pipe seed count)) a status h e = (a, h, sym e)
 
 -- A status of a run is one that the files decide.
 pub run_answered : (end : RunEnd) (status : Status) → status ≡ status_of_run end → IsAnswered status
@@ -71,14 +78,18 @@ told_of p a dumps start taken kept last shown text t elements sum count number s
     (runs.0, runs.1, runs.2, told last same_last ∙ ap (λ (u : Tally). tally_text seed u) (both ∙ all))
 
 -- The answer of a pipe's run.
-pub piped_row : (c : Component) (g : Graph) (s : Script) (p : Program) (seed count : ℕ) (end : RunEnd) (text : List ℕ) (a : Answer) → IsProgram g s p
-    → IsToldOf p (first_point p.graph.now p.script.now) seed end text → a ≡ record { status = status_of_run end; out = text; err = [] }
+pub piped_row : ReadRunsFit → RunsAreOfMachine → (c : Component) (g : Graph) (s : Script) (p : Program) (seed count : ℕ) (end : RunEnd) (text : List ℕ) (a : Answer)
+    → IsOfComponent g → IsOfText g.exports s → IsProgram g s p → IsToldOf p (first_point p.graph.now p.script.now) seed end text
+    → a ≡ record { status = status_of_run end; out = text; err = [] }
     → IsComponent (pipe_bytes seed count) c → IsLinked c g → IsScript g.exports pipe_script s → PipeAnswers seed count a
-piped_row c g s p seed count end text a is_of told e read linked said =
-    let first : first_point p.graph.now p.script.now ≡ first_point g s = ap (λ (h : Graph). first_point h p.script.now) is_of.graph ∙ ap (λ (t : Script). first_point g t) is_of.script in
-    let goes : IsRun Passes p (first_point g s) end told.0 told.1 = subst (λ (q : Point). IsRun Passes p q end told.0 told.1) first told.2 in
-    let same : a ≡ pipe_answer seed told.0 end = e ∙ ap (λ (out : List ℕ). (let b : Answer = record { status = status_of_run end; out = out; err = [] } in b)) told.3 in
-    subst (λ (b : Answer). PipeAnswers seed count b) (sym same) (piped c g s p told.0 told.1 end read linked said is_of goes)
+piped_row fit of_machine c g s p seed count end text a of said is_of told e read linked script =
+    let m = own g s p is_of (λ h t. IsOfMachine h t told.0 end) (of_machine p end told.0 told.1 (fits_machine fit g s p of said is_of) told.2) in
+    let out : text ≡ tally_text seed (counted (trace_of m.told m.by)) = told.3 ∙ ap (λ (lines : List Label). tally_text seed (counted lines)) m.same_lines in
+    let status : status_of_run end ≡ status_of m.by = ap (λ (e : RunEnd). status_of_run e) m.same_end ∙ same_status m.by in
+    let same : a ≡ pipe_answer seed m.told m.by =
+    e ∙ (ap (λ (out : List ℕ). (let b : Answer = record { status = status_of_run end; out = out; err = [] } in b)) out
+    ∙ ap (λ (status : Status). (let b : Answer = record { status = status; out = tally_text seed (counted (trace_of m.told m.by)); err = [] } in b)) status) in
+    subst (λ (b : Answer). PipeAnswers seed count b) (sym same) (piped c g s m.told m.last m.by read linked script m.runs)
 
 -- The answer of a pipe whose script is read.
 pub script_row : {E : Type 0} (c : Component) (g : Graph) (exports : List Export) (text : List ℕ) (s : Script) (seed : ℕ) (r : Result Answer E) → IsLinked c g

@@ -1,35 +1,26 @@
 -- What a call of the program answers, from the command that its words lead to and what the files hold: a constructor for each row of the
 -- statuses. In this order they are decided: words that are no command; the component file; its linking; for `run` the script file, and the
--- run, by the machine of synchronous calls or by that of asynchronous calls (`specs/Machines`), whose worlds are what the code keeps of them.
--- What a run has for the output is the text of its trace, and behind it the text of what its last world leaves, where that is asked for.
-use Rattle.std.specs.Prelude.{◌≡◌, ℕ, Bool, true, false, if◌then◌else◌, List, [], ◌++◌, Option, Some, None}
+-- run. What a run has for the output is the text of its trace, and behind it, where that is asked for, that of what it leaves (`specs/Leaving`).
+use Rattle.std.specs.Prelude.{◌≡◌, ℕ, Bool, true, false, List, [], ◌++◌, Option, Some, None}
 use Rattle.ca_base.specs.declared.refusal.Refusal.{Refusal}
 use Rattle.part_reader.specs.declared.fault.ComponentWhy.{ComponentWhy}
 use Rattle.script_reader.specs.declared.fault.ScriptFault.{ScriptFault}
 use Rattle.script_reader.specs.Script.{Script}
 use Rattle.link_spec.specs.declared.fault.LinkFault.{LinkFault}
 use Rattle.comp_graph.specs.Graph.{Graph}
-use Rattle.programs.specs.declared.program.Program.{Program}
-use Rattle.program_maker.specs.Programs.{IsProgram}
-use Rattle.world_parts.specs.Held.{Held}
-use Rattle.world_dumps.specs.Tables as tables
-use Rattle.value_moves.specs.Passing.{Passes}
-use Rattle.machine_runs.specs.declared.ending.RunEnd as runs
-use Rattle.machine_runs.specs.Worlds.{first_point, IsRun}
 use Rattle.trace_labels.specs.declared.label.Label.{Label}
 use Rattle.trace_show.specs.LabelText.{trace_text}
-use Rattle.world.specs.declared.run_end.RunEnd.{RunEnd}
-use Rattle.world.specs.World.{World}
-use Rattle.world.specs.Run.{Runs, trace_of}
-use Rattle.world.specs.Dump.{dump_of}
+use Rattle.abi_machine.specs.declared.run_end.RunEnd.{RunEnd}
+use Rattle.abi_machine.specs.World.{World}
+use Rattle.abi_machine.specs.Run.{Runs, trace_of}
 use Rattle.answer_texts.specs.Refusals.{refused_line, link_refused_line, script_refused_line}
 use Rattle.answer_texts.specs.Shown.{accepted_text, graph_text}
 use Rattle.command_words.specs.Words.{Command, Run, Check, Show, component_file}
 use Rattle.wcm.specs.declared.answer.Answer.{Answer}
 use Rattle.wcm.specs.declared.status.Status.TheVariants.{Done, Usage, Refused, ScriptRefused, LinkRefused}
 use Rattle.wcm.specs.Files.{IsFileRefused, IsFileNotLinked, IsFileLinked, IsScriptFileRefused, IsScriptFile}
-use Rattle.wcm.specs.Machines.{is_synchronous}
-use Rattle.wcm.specs.Status.{status_of, status_of_run}
+use Rattle.wcm.specs.Leaving.{Leaves}
+use Rattle.wcm.specs.Status.{status_of}
 
 -- the answer for words that are no command, with this text for the error output
 abbrev pub usage_answer : List ℕ → Answer
@@ -51,25 +42,13 @@ accepted_answer = record { status = Done; out = accepted_text; err = [] }
 abbrev pub shown_answer : Graph → Answer
 shown_answer g = record { status = Done; out = graph_text g; err = [] }
 
--- the text of a run: all its lines, and behind them the dump of its last world where it is asked for, and else nothing
-abbrev pub run_text : Bool → List Label → World → RunEnd → List ℕ
-run_text dump labels last end = trace_text (trace_of labels end) ++ (if dump then dump_of last else [])
+-- the text of a run: all its lines, and behind them what it leaves
+abbrev pub run_text : List Label → RunEnd → List ℕ → List ℕ
+run_text labels end left = trace_text (trace_of labels end) ++ left
 
 -- the answer of a run
-abbrev pub run_answer : Bool → List Label → World → RunEnd → Answer
-run_answer dump labels last end = record { status = status_of end; out = run_text dump labels last end; err = [] }
-
--- the text of what a run leaves, where it was asked for
-abbrev pub dumped : Option (List ℕ) → List ℕ
-dumped None = []
-dumped (Some text) = text
-
--- The same of the machine of asynchronous calls: of its lines the last one is told among them.
-abbrev pub run_on_text : Bool → List Label → Held → List ℕ
-run_on_text dump lines last = trace_text lines ++ (if dump then tables.dump_of last else [])
-
-abbrev pub run_on_answer : Bool → List Label → Held → runs.RunEnd → Answer
-run_on_answer dump lines last end = record { status = status_of_run end; out = run_on_text dump lines last; err = [] }
+abbrev pub run_answer : List Label → RunEnd → List ℕ → Answer
+run_answer labels end left = record { status = status_of end; out = run_text labels end left; err = [] }
 
 -- The answers for a command, if the words lead to one, where this is held. Of the text for the error output nothing is said where they
 -- are no command.
@@ -96,12 +75,7 @@ pub data Answers (held : List ℕ → Option (List ℕ)) : Option Command → An
   script_refused : (file script : List ℕ) (dump : Bool) (g : Graph) (fault : ScriptFault)
       → IsFileLinked held file g → IsScriptFileRefused held script g.exports fault
       → Answers held (Some (Run file script dump)) (script_refused_answer fault)
-  -- 0, 1, 5 or 6: the run has this end, by the machine of synchronous calls,
-  ran : (file script : List ℕ) (dump : Bool) (g : Graph) (calls : Script) (labels : List Label) (last : World) (end : RunEnd)
-      → IsFileLinked held file g → is_synchronous g calls ≡ true → IsScriptFile held script g.exports calls → Runs g calls labels last end
-      → Answers held (Some (Run file script dump)) (run_answer dump labels last end)
-  -- or by that of asynchronous calls
-  ran_on : (file script : List ℕ) (dump : Bool) (g : Graph) (calls : Script) (p : Program) (lines : List Label) (last : Held) (end : runs.RunEnd)
-      → IsFileLinked held file g → is_synchronous g calls ≡ false → IsScriptFile held script g.exports calls → IsProgram g calls p
-      → IsRun Passes p (first_point g calls) end lines last
-      → Answers held (Some (Run file script dump)) (run_on_answer dump lines last end)
+  -- 0, 1, 5 or 6: the run has this end, and what it leaves has this text
+  ran : (file script : List ℕ) (dump : Bool) (g : Graph) (calls : Script) (labels : List Label) (last : World) (end : RunEnd) (left : List ℕ)
+      → IsFileLinked held file g → IsScriptFile held script g.exports calls → Runs g calls labels last end → Leaves g calls labels last end dump left
+      → Answers held (Some (Run file script dump)) (run_answer labels end left)

@@ -6,24 +6,16 @@ use Rattle.script_reader.specs.declared.fault.ScriptFault.{ScriptFault}
 use Rattle.script_reader.specs.Script.{Script}
 use Rattle.link_spec.specs.declared.fault.LinkFault.{LinkFault}
 use Rattle.comp_graph.specs.Graph.{Graph}
-use Rattle.programs.specs.declared.program.Program.{Program}
-use Rattle.program_maker.specs.Programs.{IsProgram}
-use Rattle.world_parts.specs.Held.{Held}
-use Rattle.value_moves.specs.Passing.{Passes}
-use Rattle.machine_runs.specs.declared.ending.RunEnd as runs
-use Rattle.machine_runs.specs.declared.ending.RunEnd.TheVariants as run
-use Rattle.machine_runs.specs.Worlds.{first_point, IsRun}
 use Rattle.trace_labels.specs.declared.label.Label.{Label}
 use Rattle.trace_labels.specs.declared.trap.TrapName.{TrapName}
-use Rattle.world.specs.declared.run_end.RunEnd.{RunEnd}
-use Rattle.world.specs.declared.run_end.RunEnd.TheVariants as ends
-use Rattle.world.specs.World.{World}
-use Rattle.world.specs.Run.{Runs}
+use Rattle.abi_machine.specs.declared.run_end.RunEnd.{RunEnd}
+use Rattle.abi_machine.specs.declared.run_end.RunEnd.TheVariants as ends
+use Rattle.abi_machine.specs.World.{World}
+use Rattle.abi_machine.specs.Run.{Runs}
 use Rattle.command_words.specs.Words.{Command, Run, Check, Show, component_file}
 use Rattle.wcm.specs.declared.status.Status.{Status}
 use Rattle.wcm.specs.declared.status.Status.TheVariants.{Done, Trap, Usage, Refused, ScriptRefused, Deadlock, Fuel, ReadFault, WriteFault, Memory, LinkRefused}
-use Rattle.wcm.specs.Files.{IsFileRefused, IsFileNotLinked, IsFileLinked, IsScriptFileRefused, IsScriptFile, IsTold, IsSynchronous}
-use Rattle.wcm.specs.Machines.{is_synchronous}
+use Rattle.wcm.specs.Files.{IsFileRefused, IsFileNotLinked, IsFileLinked, IsScriptFileRefused, IsScriptFile, IsTold}
 
 -- a command that asks for nothing behind a graph
 abbrev pub asks_of_graph : Command → Bool
@@ -57,7 +49,7 @@ pub record HasNoScript (held : List ℕ → Option (List ℕ)) (words : Option C
   pub linked : IsFileLinked held file graph
   pub refused : IsScriptFileRefused held script graph.exports fault
 
--- a component is to be run, and is linked, and the run of its script has this end, by the machine of synchronous calls
+-- a component is to be run, and is linked, and the run of its script has this end
 pub record HasRun (held : List ℕ → Option (List ℕ)) (words : Option Command) (end : RunEnd) : Type 0 where
   pub file : List ℕ
   pub script : List ℕ
@@ -68,43 +60,25 @@ pub record HasRun (held : List ℕ → Option (List ℕ)) (words : Option Comman
   pub last : World
   pub named : words ≡ Some (Run file script dump)
   pub linked : IsFileLinked held file graph
-  pub sync : is_synchronous graph calls ≡ true
   pub read : IsScriptFile held script graph.exports calls
   pub runs : Runs graph calls labels last end
 
--- or by that of asynchronous calls
-pub record HasRunOn (held : List ℕ → Option (List ℕ)) (words : Option Command) (end : runs.RunEnd) : Type 0 where
-  pub file : List ℕ
-  pub script : List ℕ
-  pub dump : Bool
-  pub graph : Graph
-  pub calls : Script
-  pub program : Program
-  pub lines : List Label
-  pub last : Held
-  pub named : words ≡ Some (Run file script dump)
-  pub linked : IsFileLinked held file graph
-  pub beyond : is_synchronous graph calls ≡ false
-  pub read : IsScriptFile held script graph.exports calls
-  pub is_of : IsProgram graph calls program
-  pub goes : IsRun Passes program (first_point graph calls) end lines last
-
 -- the status has its cause in the command that the words lead to and in what is held; a fault and want of memory have theirs elsewhere
 abbrev pub HasCause : (List ℕ → Option (List ℕ)) → Option Command → Status → Type 0
-HasCause held words Done = HasGraph held words ⊎ (HasRun held words ends.Done ⊎ HasRunOn held words run.Done)
-HasCause held words Trap = ((task : ℕ) × (why : TrapName) × HasRun held words (ends.Trapped task why)) ⊎ HasRunOn held words run.Trap
+HasCause held words Done = HasGraph held words ⊎ HasRun held words ends.Done
+HasCause held words Trap = (task : ℕ) × (why : TrapName) × HasRun held words (ends.Trapped task why)
 HasCause held words Usage = words ≡ None
 HasCause held words Refused =
     (command : Command) × (refusal : Refusal ComponentWhy) × (words ≡ Some command) × IsFileRefused held (component_file command) refusal
 HasCause held words ScriptRefused = HasNoScript held words
-HasCause held words Deadlock = ((tasks : List ℕ) × HasRun held words (ends.Deadlock tasks)) ⊎ HasRunOn held words run.Deadlock
-HasCause held words Fuel = HasRun held words ends.Fuel ⊎ HasRunOn held words run.Fuel
+HasCause held words Deadlock = (tasks : List ℕ) × HasRun held words (ends.Deadlock tasks)
+HasCause held words Fuel = HasRun held words ends.Fuel
 HasCause held words ReadFault = ⊥
 HasCause held words WriteFault = ⊥
 HasCause held words Memory = ⊥
 HasCause held words LinkRefused = HasNoGraph held words
 
--- the status that a command comes to: it has its cause, and no other status has one where the files are told and what runs is synchronous
+-- the status that a command comes to: it has its cause, and no other status has one where the files are told
 pub record IsCaused (held : List ℕ → Option (List ℕ)) (words : Option Command) (status : Status) : Type 0 where
   pub cause : HasCause held words status
-  pub only : IsTold held words → IsSynchronous held words → (other : Status) → HasCause held words other → other ≡ status
+  pub only : IsTold held words → (other : Status) → HasCause held words other → other ≡ status

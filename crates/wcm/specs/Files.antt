@@ -15,7 +15,6 @@ use Rattle.link_spec.specs.Linked.{IsLinked, IsLinkRefused}
 use Rattle.comp_graph.specs.Graph.{Graph}
 use Rattle.lowering_laws.specs.Values.{AreBytes}
 use Rattle.command_words.specs.Words.{Command, Run, Check, Show, component_file}
-use Rattle.wcm.specs.Machines.{is_synchronous}
 
 -- the file of this name may hold these bytes
 abbrev pub MayHold : (List ℕ → Option (List ℕ)) → List ℕ → List ℕ → Type 0
@@ -88,17 +87,6 @@ pub record AreTold (held : List ℕ → Option (List ℕ)) (command : Command) :
 abbrev pub IsTold : (List ℕ → Option (List ℕ)) → Option Command → Type 0
 IsTold held command = IfSome command (AreTold held)
 
--- what a command runs, it runs by the machine of synchronous calls
-abbrev pub RunsSynchronously : (List ℕ → Option (List ℕ)) → Command → Type 0
-RunsSynchronously held (Run file script dump) =
-    (g : Graph) (calls : Script) → IsFileLinked held file g → IsScriptFile held script g.exports calls → is_synchronous g calls ≡ true
-RunsSynchronously held (Check file) = Unit {0}
-RunsSynchronously held (Show file) = Unit {0}
-
--- the same of words, if they are a command
-abbrev pub IsSynchronous : (List ℕ → Option (List ℕ)) → Option Command → Type 0
-IsSynchronous held command = IfSome command (RunsSynchronously held)
-
 -- the component file that words name is told, if they are a command
 abbrev pub IsComponentTold : (List ℕ → Option (List ℕ)) → Option Command → Type 0
 IsComponentTold held command = IfSome command (λ c. IsSome (held (component_file c)))
@@ -109,6 +97,10 @@ IsRead c = (bytes : List ℕ) × AreBytes bytes × IsComponent bytes c
 
 abbrev pub IsOfComponent : Graph → Type 0
 IsOfComponent g = (c : Component) × IsRead c × IsLinked c g
+
+-- a script that is read of some text, for these exports
+abbrev pub IsOfText : List Export → Script → Type 0
+IsOfText exports s = (text : List ℕ) × IsScript exports text s
 
 -- the file of this name may hold the bytes of this component
 pub record IsFileRead (held : List ℕ → Option (List ℕ)) (name : List ℕ) (c : Component) : Type 0 where

@@ -1,9 +1,11 @@
 pub mod Answers
 pub mod Causes
+pub mod Coming
 pub mod Files
 pub mod Laws
-pub mod Machines
+pub mod Leaving
 pub mod Piped
 pub mod Status
 pub mod Stops
+pub mod Traced
 pub mod Written

@@ -15,19 +15,16 @@ use Rattle.link_spec.specs.Linked.{IsLinked, IsLinkRefused}
 use Rattle.comp_graph.specs.Graph.{Graph}
 use Rattle.script_reader.specs.declared.fault.ScriptFault.{ScriptFault}
 use Rattle.script_reader.specs.Script.{Script, IsScript, IsScriptRefused}
-use Rattle.programs.specs.declared.program.Program.{Program}
-use Rattle.program_maker.specs.Programs.{IsProgram}
-use Rattle.world_parts.specs.Held.{Held}
-use Rattle.value_moves.specs.Passing.{Passes}
-use Rattle.machine_runs.specs.declared.ending.RunEnd.{RunEnd}
-use Rattle.machine_runs.specs.Worlds.{first_point, IsRun}
+use Rattle.abi_machine.specs.declared.run_end.RunEnd.{RunEnd}
+use Rattle.abi_machine.specs.World.{World}
+use Rattle.abi_machine.specs.Run.{Runs, trace_of}
 use Rattle.trace_labels.specs.declared.label.Label.{Label}
 use Rattle.trace_show.specs.LabelText.{line}
 use Rattle.trace_show.specs.Tally.{Tally, counted, without_feed}
 use Rattle.command_words.specs.Words.{Request, OfFile, Pipe}
 use Rattle.wcm.specs.declared.answer.Answer.{Answer}
 use Rattle.wcm.specs.declared.status.Status.{Status}
-use Rattle.wcm.specs.Status.{status_of_run}
+use Rattle.wcm.specs.Status.{status_of}
 use Rattle.wcm.specs.Answers.{Answers, refused_answer, link_refused_answer, script_refused_answer}
 use Rattle.wcm.specs.Causes.{IsCaused}
 use Rattle.wcm.specs.Files.{IsTold}
@@ -47,7 +44,7 @@ abbrev pub tally_text : ℕ → Tally → List ℕ
 tally_text seed t = number_line (codes "seed ") seed ++ number_line (codes "elements ") t.elements ++ number_line (codes "sum ") t.sum ++ line (without_feed t.last)
 
 abbrev pub pipe_answer : ℕ → List Label → RunEnd → Answer
-pipe_answer seed lines end = record { status = status_of_run end; out = tally_text seed (counted lines); err = [] }
+pipe_answer seed labels end = record { status = status_of end; out = tally_text seed (counted (trace_of labels end)); err = [] }
 
 -- the answers: a constructor for each row of the statuses, in the order in which they are decided
 pub data PipeAnswers (seed count : ℕ) : Answer → Type 0 where
@@ -56,10 +53,10 @@ pub data PipeAnswers (seed count : ℕ) : Answer → Type 0 where
   pipe_not_linked : (c : Component) (fault : LinkFault) → IsComponent (pipe_bytes seed count) c → IsLinkRefused c fault → PipeAnswers seed count (link_refused_answer fault)
   pipe_script_refused : (c : Component) (g : Graph) (fault : ScriptFault) → IsComponent (pipe_bytes seed count) c → IsLinked c g → IsScriptRefused g.exports pipe_script fault
       → PipeAnswers seed count (script_refused_answer fault)
-  -- 0, 1, 5 or 6: the run has this end, by the machine of asynchronous calls
-  piped : (c : Component) (g : Graph) (calls : Script) (p : Program) (lines : List Label) (last : Held) (end : RunEnd)
-      → IsComponent (pipe_bytes seed count) c → IsLinked c g → IsScript g.exports pipe_script calls → IsProgram g calls p → IsRun Passes p (first_point g calls) end lines last
-      → PipeAnswers seed count (pipe_answer seed lines end)
+  -- 0, 1, 5 or 6: the run has this end
+  piped : (c : Component) (g : Graph) (calls : Script) (labels : List Label) (last : World) (end : RunEnd)
+      → IsComponent (pipe_bytes seed count) c → IsLinked c g → IsScript g.exports pipe_script calls → Runs g calls labels last end
+      → PipeAnswers seed count (pipe_answer seed labels end)
 
 -- The answers for what words ask for: for a command over files by what is held, for a pipe by its seed and its count, and for words that ask for nothing.
 abbrev pub Answered : (List ℕ → Option (List ℕ)) → Option Request → Answer → Type 0

@@ -1,7 +1,7 @@
 -- The statuses of the program: which number each has, and which one a run's end has.
 use Rattle.std.specs.Prelude.{ℕ}
-use Rattle.world.specs.declared.run_end.RunEnd.{RunEnd}
-use Rattle.world.specs.declared.run_end.RunEnd.TheVariants as ends
+use Rattle.abi_machine.specs.declared.run_end.RunEnd.{RunEnd}
+use Rattle.abi_machine.specs.declared.run_end.RunEnd.TheVariants as ends
 use Rattle.machine_runs.specs.declared.ending.RunEnd as runs
 use Rattle.machine_runs.specs.declared.ending.RunEnd.TheVariants as run
 use Rattle.wcm.specs.declared.status.Status.{Status}
@@ -26,7 +26,7 @@ status_of (ends.Trapped task why) = Trap
 status_of (ends.Deadlock tasks) = Deadlock
 status_of ends.Fuel = Fuel
 
--- the same of the machine of asynchronous calls
+-- the same of a run of the program's own steps
 abbrev pub status_of_run : runs.RunEnd → Status
 status_of_run run.Done = Done
 status_of_run run.Trap = Trap

@@ -1,9 +1,8 @@
 //! Runs components.
 //!
 //! - `top`: the call that reads the words and the files, and writes the answer
-//! - `asked`: the answer to what words ask for; `answer`: that of a command; `piped`: that of a pipe; `run_on`: that of a
-//!   run by the machine of asynchronous calls; `status`: how a call ends
-//! - `gathered`: a sink that gathers all that is written
+//! - `asked`: the answer to what words ask for; `answer`: that of a command, over the files that `files` reads; `piped`: that of
+//!   a pipe; `running`: that of a run, whose trace goes out as it goes; `status`: how a call ends
 //! - `adapters`: the files of the system and the standard streams
 //! - `laws`: what holds of the definitions alone
 #![tactic(auto)]
@@ -11,16 +10,18 @@
 mod adapters;
 mod answer;
 mod asked;
-mod gathered;
+mod files;
 mod laws;
 mod piped;
-mod run_on;
+mod running;
 mod status;
 mod top;
 #[cfg(test)]
 mod top_tests;
 #[cfg(test)]
 mod top_tests_cases;
+#[cfg(test)]
+mod top_tests_long;
 #[cfg(test)]
 mod top_tests_pipes;
 

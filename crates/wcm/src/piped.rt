@@ -10,13 +10,14 @@ ghost use Rattle.trace_show.specs.Tally.{tally_of, counted, without_feed};
 ghost use Rattle.world_parts.specs.Held.{Held};
 ghost use Rattle.value_moves.specs.Passing.{Passes};
 ghost use Rattle.machine_runs.specs.Worlds.{first_point, StepsOn, IsRun};
-ghost use Rattle.wcm.specs.Files.{IsOfComponent, IsRead};
+ghost use Rattle.wcm.specs.Files.{IsOfComponent, IsOfText, IsRead};
 ghost use Rattle.wcm.specs.Piped.{PipeAnswers, number_line, pipe_bytes, pipe_script, tally_text};
 ghost use Rattle.wcm.specs.Status.{IsAnswered};
 
 use crate::answer::{Answer, refusal};
-use crate::status::{Status, status_of_run_end};
+use crate::status::{Status, status_of_end};
 use answer_texts::{link_refused_line, refused_line, script_refused_line};
+use async_graph_laws::laws::read_runs_fit;
 use ca_io::NullSink;
 use comp_graph::Graph;
 use comp_link::link;
@@ -28,6 +29,7 @@ use link_spec::laws::graphs_are_sound;
 use machine_runs::{RunEnd, run_script, runs_step_on};
 use program_maker::program_of;
 use programs::Program;
+use run_laws::runs_are_of_machine;
 use script_reader::{Script, read_script};
 use std::alloc::Global;
 use syntax_trees::{Bytes, Seq};
@@ -105,6 +107,7 @@ fn run_answer(
     seed: u32,
 ) -> Result<Answer, Memory>
     requires linked { IsOfComponent graph.now }
+    requires said { IsOfText graph.now.exports script.now }
     ensures answers { IfOk result (λ a. (count : ℕ) → IsComponent (pipe_bytes seed count) component.now → IsLinked component.now graph.now → IsScript graph.now.exports pipe_script script.now
         → PipeAnswers seed count a) }
     ensures status { IfOk result (λ a. IsAnswered a.status) }
@@ -114,9 +117,11 @@ fn run_answer(
     read_modules_are_typed();
     passes_stay_fit(&program);
     runs_step_on::<ValueMoves>(&program);
+    read_runs_fit();
+    runs_are_of_machine();
     let told = told_run(alloc, &program, seed)?;
     Ok(Answer {
-        status: status_of_run_end(told.end),
+        status: status_of_end(told.end),
         out: told.text,
         err: Seq::new(alloc),
     })
@@ -175,7 +180,7 @@ fn pipe_file(alloc: Global, seed: u32, count: u32) -> Result<Bytes, Memory>
     build.bytes(alloc)
 }
 
-/// What `pipe` answers for a seed and a count. It fails for want of memory; or where no rule applies, or the run has more steps than are made.
+/// What `pipe` answers for a seed and a count. It fails for want of memory, or where the run comes to no end.
 pub fn pipe_answer(alloc: Global, seed: u32, count: u32) -> Result<Answer, Memory>
     ensures answers { IfOk result (PipeAnswers seed count) }
     ensures status { IfOk result (λ a. IsAnswered a.status) }

@@ -2,11 +2,10 @@
 
 ghost use Rattle.std.specs.Prelude.{◌≡◌};
 ghost use Rattle.std.specs.Process.{exit_status};
-ghost use Rattle.wcm.specs.Status.{status_of, status_of_run, status_code};
+ghost use Rattle.wcm.specs.Status.{status_of_run, status_code};
 
-use machine_runs::RunEnd as KeptEnd;
+use machine_runs::RunEnd;
 use std::process::ExitCode;
-use world::RunEnd;
 
 /// How a call of the program ends.
 #[derive(Clone, Copy, Debug)]
@@ -29,7 +28,7 @@ pub enum Status {
     ReadFault,
     /// The output or the error output took no more.
     WriteFault,
-    /// Memory ran out; or no rule applies in a run of asynchronous calls, or it has more steps than are made.
+    /// Memory ran out; or a run has more steps than are made, or no rule applies to what is kept.
     Memory,
     /// The component is not linked.
     LinkRefused,
@@ -64,25 +63,13 @@ pub fn exit_code(status: Status) -> ExitCode
 }
 
 /// The status of a run that ends so.
-pub fn status_of_end(end: &RunEnd) -> Status
-    ensures { result ≡ status_of end.now }
-{
-    match end {
-        RunEnd::Done => Status::Done,
-        RunEnd::Trapped { .. } => Status::Trap,
-        RunEnd::Deadlock { .. } => Status::Deadlock,
-        RunEnd::Fuel => Status::Fuel,
-    }
-}
-
-/// The status of a run of the machine of asynchronous calls that ends so.
-pub fn status_of_run_end(end: KeptEnd) -> Status
+pub fn status_of_end(end: RunEnd) -> Status
     ensures { result ≡ status_of_run end }
 {
     match end {
-        KeptEnd::Done => Status::Done,
-        KeptEnd::Trap => Status::Trap,
-        KeptEnd::Deadlock => Status::Deadlock,
-        KeptEnd::Fuel => Status::Fuel,
+        RunEnd::Done => Status::Done,
+        RunEnd::Trap => Status::Trap,
+        RunEnd::Deadlock => Status::Deadlock,
+        RunEnd::Fuel => Status::Fuel,
     }
 }

@@ -4,14 +4,17 @@ ghost use Rattle.std.specs.Prelude.{false, Some, ◌≡◌, ◌≢◌, ◌<◌, 
 ghost use Rattle.ca_io.specs.Causes.{Rose};
 ghost use Rattle.ca_io.specs.Bytes.{grown, TookFront};
 ghost use Rattle.wcm.specs.declared.answer.Answer.{Answer};
+ghost use Rattle.wcm.specs.Coming.{WentOut};
 ghost use Rattle.wcm.specs.Piped.{Answered, IsAskedFor, IsAskedTold};
 ghost use Rattle.wcm.specs.Status.{IsFinal};
 ghost use Rattle.command_words.specs.Words.{Request, Pipe, is_taken, plain_request, request_of};
+ghost use Rattle.wcm.specs.Traced.{WroteTrace};
 ghost use Rattle.wcm.specs.Written.{WroteAll, WroteFront, WroteFrontOrLine};
 
 use crate::answer::{Answer, Stop};
 use crate::asked::answer_to;
 use crate::status::Status;
+use abi_machine::one_run;
 use ca_io::{Failed, Files, Sink, write_all};
 use command_words::request_of;
 use faults::MemoryOr;
@@ -40,8 +43,8 @@ fn write_answer<K: Sink>(answer: &Answer, out: &mut K, err: &mut K) -> Result<()
 /// Runs the command that the words say, over the files, the output and the error output that are handed in, and
 /// answers how it ends. `words[0]` is the program's name. `check`, `show` and `run` read and link the component file FILE. Then
 /// `check FILE` tells that it is linked, `show FILE` what can be called of it, and `run FILE SCRIPT` reads the script file,
-/// makes the core instances and then the script's calls, and writes the trace to the output; with `--dump` what the run
-/// leaves stands behind it. `pipe SEED N` makes a component in which N numbers go through a stream, runs it, and tells in
+/// makes the core instances and then the script's calls, and writes the trace to the output as the run goes; with `--dump` what
+/// the run leaves stands behind it. `pipe SEED N` makes a component in which N numbers go through a stream, runs it, and tells in
 /// four lines what went through. For words that are none of these a text for the user goes to the error output.
 ///
 /// What it answers is a row of `Answers`, by the command that the words lead to and what the files may hold: what is told of them, or
@@ -63,8 +66,8 @@ pub fn run_words<F: Files, K: Sink>(
         → (a : Answer) × Answered (F.held files.old) (request_of (map string_bytes words.now)) a × (result ≡ a.status)
         × WroteAll a (K.taken out.old) (K.taken out.new) (K.taken err.old) (K.taken err.new) }
 
-    // The same where no fault and no want of memory ended the call. Where the files are told, and what runs is synchronous, each status
-    // comes exactly where it has a cause in what they hold.
+    // The same where no fault and no want of memory ended the call. Where the files are told, each status comes exactly where it has a
+    // cause in what they hold.
     ensures written { IsFinal result
         → (a : Answer) × Answered (F.held files.old) (request_of (map string_bytes words.now)) a × (result ≡ a.status)
         × WroteAll a (K.taken out.old) (K.taken out.new) (K.taken err.old) (K.taken err.new) }
@@ -88,21 +91,27 @@ pub fn run_words<F: Files, K: Sink>(
         × (K.taken err.new ≡ grown (K.taken err.old) (codes "read fault" ++ 10 ∷ [])) }
 
     // A write fault, only where the count of a sink's faults rose; wherever it grew, unless want of memory took its
-    // place. Each output took a front of an answer's text; or a file was not read and the count of the files' faults rose,
-    // the output took nothing, and the error output a front of the line.
+    // place. Each output took a front of an answer's text. Or it was a write of a run's trace, what the run leaves is asked for, and the
+    // machine's run ends for want of fuel, so that of what it leaves no text is known: the output took a front of that run's
+    // trace, and the error output nothing. Or a file was not read and the count of the files' faults rose, the output took nothing, and
+    // the error output a front of the line.
     ensures write_fault { result ≡ Status.WriteFault
         → Rose (K.faults out.old) (K.faults out.new) ⊎ Rose (K.faults err.old) (K.faults err.new) }
     ensures write_fault_is_told { (K.faults out.old < K.faults out.new) ⊎ (K.faults err.old < K.faults err.new)
         → (result ≡ Status.WriteFault) ⊎ (result ≡ Status.Memory) }
     ensures write_fault_front { result ≡ Status.WriteFault
-        → ((a : Answer) × Answered (F.held files.old) (request_of (map string_bytes words.now)) a
+        → (((a : Answer) × Answered (F.held files.old) (request_of (map string_bytes words.now)) a
         × WroteFront a (K.taken out.old) (K.taken out.new) (K.taken err.old) (K.taken err.new))
+        ⊎ WroteTrace (F.held files.old) (request_of (map string_bytes words.now)) (K.taken out.old) (K.taken out.new) (K.taken err.old) (K.taken err.new))
         ⊎ (Rose (F.faults files.old) (F.faults files.new)
         × (K.taken out.new ≡ K.taken out.old)
         × TookFront (K.taken err.old) (K.taken err.new) (codes "read fault" ++ 10 ∷ [])) }
 
-    // After want of memory, where the files are told, the output took a front of what the answer has for it, and the error output a
-    // front of what the answer has for it or of the line, which is whole where the error output did not fail.
+    // After want of memory the output took nothing, or a front of the trace of the machine's run. So where the files are told it took a front of
+    // what the answer has for it, and the error output a front of what the answer has for it or of the line, which is whole where the error
+    // output did not fail.
+    ensures memory_trace { result ≡ Status.Memory → (K.taken out.new ≡ K.taken out.old)
+        ⊎ WentOut (F.held files.old) (request_of (map string_bytes words.now)) (K.taken out.old) (K.taken out.new) }
     ensures memory { IsAskedTold (F.held files.old) (request_of (map string_bytes words.now))
         → (a : Answer) → Answered (F.held files.old) (request_of (map string_bytes words.now)) a → result ≡ Status.Memory
         → WroteFrontOrLine a (codes "want of memory" ++ 10 ∷ []) (K.taken out.old) (K.taken out.new) (K.taken err.old) (K.taken err.new) }
@@ -113,8 +122,9 @@ pub fn run_words<F: Files, K: Sink>(
     ensures held { (name : List ℕ) → F.held files.new name ≡ F.held files.old name }
     ensures pipe_reads_nothing { (seed count : ℕ) → request_of (map string_bytes words.now) ≡ Some (Pipe seed count) → files.new ≡ files.old }
 {
+    one_run();
     match request_of(alloc, words) {
-        Ok(request) => match answer_to(alloc, request, files) {
+        Ok(request) => match answer_to(alloc, request, files, out) {
             Ok(answer) => match write_answer(&answer, out, err) {
                 Ok(()) => answer.status,
                 Err(Failed) => Status::WriteFault,
@@ -123,6 +133,7 @@ pub fn run_words<F: Files, K: Sink>(
                 Ok(()) => Status::ReadFault,
                 Err(Failed) => Status::WriteFault,
             },
+            Err(Stop::Write) => Status::WriteFault,
             Err(Stop::Memory) => {
                 let _ = write_all(err, WANT_OF_MEMORY);
                 Status::Memory

@@ -3,9 +3,8 @@
 use crate::laws;
 use crate::status::Status;
 use crate::top::run_words;
-use crate::top_tests_cases::{
-    ADD, CASES, COUNT, LONG_CASES, LONG_COUNT, TRAPPING, WORDS, WORDS_COUNT,
-};
+use crate::top_tests_cases::{ADD, CASES, COUNT, TRAPPING, WORDS, WORDS_COUNT};
+use crate::top_tests_long::{LONG_CASES, LONG_COUNT};
 use ca_io::{MemFiles, MemSink};
 use std::alloc::{AllocError, Global};
 use std::process::Abort;
@@ -229,11 +228,10 @@ fn calls_over_a_long_file(rt: HostRuntime) -> Result<(), Fail> {
 
 #[test]
 fn laws_hold() {
-    laws::scripts_are_sound();
-    laws::sound_scripts_are_synchronous();
     laws::one_answer();
     laws::one_pipe();
     laws::statuses_have_causes();
+    laws::traces_are_fronts();
     command_words::laws::plain_words_are_taken();
     command_words::laws::taken_words_are_read();
 }

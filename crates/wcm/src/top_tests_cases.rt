@@ -471,7 +471,6 @@ out enter T1
 out return T1 (5)
 out exit T1
 out done
-part instanc
 
 most 1
 words wcm check add.wasm
@@ -490,23 +489,5 @@ words wcm show add.wasm
 status WriteFault
 out instances 1
 part fun
-
-";
-
-/// How many cases of a long file there are.
-pub const LONG_COUNT: u32 = 2;
-
-/// Component files that are too long.
-pub const LONG_CASES: &str = "
-component none
-zeros 16777217
-status Refused
-err refused at 16777216: Limit
-
-component none
-zeros 16777217
-words wcm check add.wasm
-status Refused
-err refused at 16777216: Limit
 
 ";

@@ -1,6 +1,6 @@
-use Rattle.wcm.proofs.Reading.{linked_row}
+use Rattle.wcm.proofs.Reading.{linked_file}
 use Rattle.wcm.proofs.answer.linked_answer.Goals as goal
 
-pub returns-clause-file : goal.returns-clause-file
-returns-clause-file g c =
-    linked_row (g.F.Files.held c.args.files.now) c.args.script.now c.args.dump c.args.component.now c.args.graph.now c.script_answer.result c.requires.linked c.script_answer.ensures.file
+pub returns-clause-comes : goal.returns-clause-comes
+returns-clause-comes g c = λ file read.
+    c.script_answer.ensures.comes file (linked_file (g.F.Files.held c.args.files.now) file c.args.component.now c.args.graph.now read c.requires.linked)

@@ -1,5 +1,0 @@
-use Rattle.graph_laws.proofs.GraphsApart.{linked_graphs_are_apart}
-use Rattle.graph_laws.proofs.laws.linked_graphs_are_apart.Goals as goal
-
-pub returns : goal.returns
-returns c = linked_graphs_are_apart
